@@ -1,0 +1,646 @@
+//! A second reading of the sheet, written from document 01 alone, so that the
+//! library's reading can be compared with it and timed against it.
+//!
+//! `rustc --test bench/peer.rs` builds the tests at the end of this file.
+
+/// The refusal's number and its line (0 for refusal 1).
+pub type Refusal = (u8, u16);
+
+/// Units in a bar.
+pub const BAR_UNITS: u32 = 20_160;
+
+const MAX_TEXT: usize = 16_384;
+const MAX_RULES: usize = 64;
+const MAX_ONSETS: usize = 512;
+const MAX_BAR_ONSETS: u8 = 32;
+const MAX_ARITY: usize = 8;
+/// 20,160 is 2^6 × 3^2 × 5 × 7 and so has 84 divisors.
+const BAR_DIVISORS: usize = 84;
+
+const TOO_LONG: u8 = 1;
+const FORM: u8 = 2;
+const KIND: u8 = 3;
+const COUNT: u8 = 4;
+const RANGE: u8 = 5;
+const FALLING: u8 = 6;
+const PAST_END: u8 = 7;
+const TOO_MANY: u8 = 8;
+
+const GRAMMAR_HEAD: u8 = 0x47;
+const DIVISION: u8 = 0x44;
+const LEAF: u8 = 0x4C;
+const PLAYING_HEAD: u8 = 0x45;
+const ONSET: u8 = 0x4E;
+
+/// The comparison asks for only some of what a sheet says.
+#[allow(dead_code)]
+#[derive(Debug, PartialEq)]
+pub enum Rule {
+    /// Only the first `arity` of `parts` count; the others are 0.
+    Division {
+        head: u8,
+        weight: u16,
+        arity: u8,
+        parts: [u8; MAX_ARITY],
+    },
+    Leaf {
+        head: u8,
+        weight: u16,
+        n: u8,
+    },
+}
+
+#[allow(dead_code)]
+#[derive(Debug)]
+pub struct Sheet {
+    pub nonterminals: u8,
+    pub start: u8,
+    pub multiplier: u16,
+    pub rules: Vec<Rule>,
+    pub bars: u8,
+    /// One bar's duration in microseconds.
+    pub duration: u32,
+    /// Unit, counted from the first bar, and pitch.
+    pub onsets: Vec<(u32, u8)>,
+}
+
+/// Reads a sheet, or gives its refusal, 1 to 8.
+pub fn read(text: &[u8]) -> Result<Sheet, Refusal> {
+    if text.len() > MAX_TEXT {
+        return Err((TOO_LONG, 0));
+    }
+    if text.is_empty() {
+        return Err((FORM, 1));
+    }
+    let mut lines = Lines::new(text);
+    read_lines(&mut lines).map_err(|refusal| match refusal {
+        (FORM, _) => refusal,
+        // Form is judged over the whole text first, so a badly formed line
+        // further down goes before a larger number found up here.
+        _ => lines.first_badly_formed().unwrap_or(refusal),
+    })
+}
+
+/// The length finding requires of its work slice, in cells.
+pub fn work_cells(sheet: &Sheet) -> u64 {
+    let entries = u64::from(sheet.nonterminals) * lengths(sheet) * most_in_a_bar(sheet);
+    16 * (entries + u64::from(sheet.bars))
+}
+
+/// The length finding requires of its tree slice, in bytes.
+pub fn tree_bytes(sheet: &Sheet) -> u64 {
+    u64::from(sheet.bars) + 80 * sheet.onsets.len() as u64
+}
+
+/// L: the lengths reached from a bar by the sheet's divisions.
+fn lengths(sheet: &Sheet) -> u64 {
+    let mut used = [false; MAX_ARITY + 1];
+    for rule in &sheet.rules {
+        if let Rule::Division { arity, .. } = rule {
+            used[usize::from(*arity)] = true;
+        }
+    }
+    let mut reached = [0u16; BAR_DIVISORS];
+    reached[0] = BAR_UNITS as u16;
+    let mut count = 1;
+    let mut next = 0;
+    while next < count {
+        let length = reached[next];
+        next += 1;
+        for arity in (2..=MAX_ARITY).filter(|&arity| used[arity]) {
+            let part = length / arity as u16;
+            if part * arity as u16 == length && !reached[..count].contains(&part) {
+                reached[count] = part;
+                count += 1;
+            }
+        }
+    }
+    count as u64
+}
+
+/// E: the largest number of onsets in a bar.
+fn most_in_a_bar(sheet: &Sheet) -> u64 {
+    let mut most = 0;
+    let mut in_bar = 0;
+    let mut bar_end = 0;
+    for &(unit, _) in &sheet.onsets {
+        if unit >= bar_end {
+            bar_end = (unit / BAR_UNITS + 1) * BAR_UNITS;
+            in_bar = 0;
+        }
+        in_bar += 1;
+        most = most.max(in_bar);
+    }
+    most
+}
+
+/// What a byte is worth as a digit; `NO_DIGIT` for every other byte.
+static DIGIT: [u8; 256] = digit_values();
+const NO_DIGIT: u8 = 0xFF;
+
+const fn digit_values() -> [u8; 256] {
+    let digits = b"0123456789ABCDEF";
+    let mut values = [NO_DIGIT; 256];
+    let mut value = 0;
+    while value < digits.len() {
+        values[digits[value] as usize] = value as u8;
+        value += 1;
+    }
+    values
+}
+
+/// The byte a pair of digits stands for.
+#[inline]
+fn byte(pair: &[u8]) -> Option<u8> {
+    let (high, low) = (DIGIT[usize::from(pair[0])], DIGIT[usize::from(pair[1])]);
+    ((high | low) != NO_DIGIT).then_some((high << 4) | low)
+}
+
+/// One well-formed line.
+struct Line<'a> {
+    kind: u8,
+    count: usize,
+    digits: &'a [u8],
+    /// The last eight bytes, or all if fewer, as one big-endian number. It is
+    /// gathered while the form is checked, for the many lines of onsets; the
+    /// few other lines take their fields from the digits.
+    tail: u64,
+    number: u16,
+}
+
+impl Line<'_> {
+    fn refuse<T>(&self, number: u8) -> Result<T, Refusal> {
+        Err((number, self.number))
+    }
+
+    fn refuse_if(&self, fault: bool, number: u8) -> Result<(), Refusal> {
+        if fault {
+            self.refuse(number)
+        } else {
+            Ok(())
+        }
+    }
+
+    fn field(&self, at: usize, bytes: usize) -> u32 {
+        let digits = &self.digits[2 * at..2 * (at + bytes)];
+        digits.iter().fold(0, |value, &digit| {
+            (value << 4) | u32::from(DIGIT[usize::from(digit)])
+        })
+    }
+
+    fn one(&self, at: usize) -> u8 {
+        self.field(at, 1) as u8
+    }
+
+    fn two(&self, at: usize) -> u16 {
+        self.field(at, 2) as u16
+    }
+
+    fn four(&self, at: usize) -> u32 {
+        self.field(at, 4)
+    }
+}
+
+/// The lines of a text, each checked and turned into bytes in the same pass.
+struct Lines<'a> {
+    rest: &'a [u8],
+    read: u16,
+}
+
+impl<'a> Lines<'a> {
+    fn new(text: &'a [u8]) -> Self {
+        Lines {
+            rest: text,
+            read: 0,
+        }
+    }
+
+    /// The next line, or `None` at the end of the text. Inlined, so that a line
+    /// stays in registers: handing it over in memory costs a good part more.
+    #[inline(always)]
+    fn next(&mut self) -> Result<Option<Line<'a>>, Refusal> {
+        if self.rest.is_empty() {
+            return Ok(None);
+        }
+        self.read += 1;
+        self.line().map(Some).ok_or((FORM, self.read))
+    }
+
+    /// `None` if the line is badly formed.
+    #[inline(always)]
+    fn line(&mut self) -> Option<Line<'a>> {
+        let mut pairs = self.rest.chunks_exact(2);
+        let kind = byte(pairs.next()?)?;
+        let mut tail = u64::from(kind);
+        let mut count = 1;
+        for pair in pairs {
+            if pair[0] == b'\n' {
+                break;
+            }
+            tail = (tail << 8) | u64::from(byte(pair)?);
+            count += 1;
+        }
+        let (digits, [b'\n', rest @ ..]) = self.rest.split_at(2 * count) else {
+            return None;
+        };
+        self.rest = rest;
+        Some(Line {
+            kind,
+            count,
+            digits,
+            tail,
+            number: self.read,
+        })
+    }
+
+    /// The next line where the sheet cannot end yet.
+    fn expect(&mut self) -> Result<Line<'a>, Refusal> {
+        self.next()?.ok_or((KIND, self.read + 1))
+    }
+
+    fn first_badly_formed(&mut self) -> Option<Refusal> {
+        loop {
+            match self.next() {
+                Ok(Some(_)) => {}
+                Ok(None) => return None,
+                Err(refusal) => return Some(refusal),
+            }
+        }
+    }
+}
+
+fn read_lines(lines: &mut Lines) -> Result<Sheet, Refusal> {
+    let mut sheet = grammar_head(&lines.expect()?)?;
+    let playing = loop {
+        let line = lines.expect()?;
+        match line.kind {
+            DIVISION | LEAF => {
+                let rule = rule(&line, sheet.nonterminals)?;
+                line.refuse_if(sheet.rules.len() == MAX_RULES, TOO_MANY)?;
+                sheet.rules.push(rule);
+            }
+            PLAYING_HEAD if !sheet.rules.is_empty() => break line,
+            _ => return line.refuse(KIND),
+        }
+    };
+    (sheet.bars, sheet.duration) = playing_head(&playing)?;
+    onsets(lines, &mut sheet)?;
+    Ok(sheet)
+}
+
+fn grammar_head(line: &Line) -> Result<Sheet, Refusal> {
+    line.refuse_if(line.kind != GRAMMAR_HEAD, KIND)?;
+    line.refuse_if(line.count != 5, COUNT)?;
+    let (nonterminals, start) = (line.one(1), line.one(2));
+    let in_range = (1..=16).contains(&nonterminals) && start < nonterminals;
+    line.refuse_if(!in_range, RANGE)?;
+    Ok(Sheet {
+        nonterminals,
+        start,
+        multiplier: line.two(3),
+        rules: Vec::with_capacity(MAX_RULES),
+        bars: 0,
+        duration: 0,
+        onsets: Vec::with_capacity(MAX_ONSETS),
+    })
+}
+
+fn rule(line: &Line, nonterminals: u8) -> Result<Rule, Refusal> {
+    if line.kind == DIVISION {
+        division(line, nonterminals)
+    } else {
+        leaf(line, nonterminals)
+    }
+}
+
+/// The arity stands before the exact count, since it decides that count.
+fn division(line: &Line, nonterminals: u8) -> Result<Rule, Refusal> {
+    line.refuse_if(line.count < 5, COUNT)?;
+    let (head, arity) = (line.one(1), line.one(4));
+    line.refuse_if(!(2..=MAX_ARITY as u8).contains(&arity), RANGE)?;
+    line.refuse_if(line.count != 5 + usize::from(arity), COUNT)?;
+    let mut parts = [0; MAX_ARITY];
+    for (part, at) in parts.iter_mut().zip(5..line.count) {
+        *part = line.one(at);
+    }
+    // The parts not listed are 0 and so below Q.
+    let in_range = head < nonterminals && parts.iter().all(|&part| part < nonterminals);
+    line.refuse_if(!in_range, RANGE)?;
+    Ok(Rule::Division {
+        head,
+        weight: line.two(2),
+        arity,
+        parts,
+    })
+}
+
+fn leaf(line: &Line, nonterminals: u8) -> Result<Rule, Refusal> {
+    line.refuse_if(line.count != 5, COUNT)?;
+    let (head, n) = (line.one(1), line.one(4));
+    line.refuse_if(head >= nonterminals || n > 3, RANGE)?;
+    Ok(Rule::Leaf {
+        head,
+        weight: line.two(2),
+        n,
+    })
+}
+
+/// The bars and one bar's duration.
+fn playing_head(line: &Line) -> Result<(u8, u32), Refusal> {
+    line.refuse_if(line.count != 6, COUNT)?;
+    let (bars, duration) = (line.one(1), line.four(2));
+    let in_range = (1..=64).contains(&bars) && (1_000..=60_000_000).contains(&duration);
+    line.refuse_if(!in_range, RANGE)?;
+    Ok((bars, duration))
+}
+
+fn onsets(lines: &mut Lines, sheet: &mut Sheet) -> Result<(), Refusal> {
+    // 64 bars of 60,000,000 microseconds still fit 32 bits.
+    let end = u32::from(sheet.bars) * sheet.duration;
+    let mut before = 0;
+    let mut bar_end = 0;
+    let mut in_bar = 0;
+    let mut line = lines.expect()?;
+    loop {
+        let (time, pitch) = onset(&line)?;
+        line.refuse_if(time < before, FALLING)?;
+        line.refuse_if(time >= end, PAST_END)?;
+        let unit = unit(time, sheet.duration);
+        if unit >= bar_end {
+            bar_end = (unit / BAR_UNITS + 1) * BAR_UNITS;
+            in_bar = 0;
+        }
+        let full = sheet.onsets.len() == MAX_ONSETS || in_bar == MAX_BAR_ONSETS;
+        line.refuse_if(full, TOO_MANY)?;
+        in_bar += 1;
+        before = time;
+        sheet.onsets.push((unit, pitch));
+        match lines.next()? {
+            Some(next) => line = next,
+            None => return Ok(()),
+        }
+    }
+}
+
+/// An onset's time in microseconds and its pitch.
+fn onset(line: &Line) -> Result<(u32, u8), Refusal> {
+    line.refuse_if(line.kind != ONSET, KIND)?;
+    line.refuse_if(line.count != 7, COUNT)?;
+    let time = (line.tail >> 16) as u32;
+    let pitch = (line.tail >> 8) as u8;
+    let velocity = line.tail as u8;
+    let in_range = pitch <= 127 && (1..=127).contains(&velocity);
+    line.refuse_if(!in_range, RANGE)?;
+    Ok((time, pitch))
+}
+
+/// The unit of a time before the end: at most 64 bars, so it fits 32 bits.
+fn unit(time: u32, duration: u32) -> u32 {
+    (u64::from(time) * u64::from(BAR_UNITS) / u64::from(duration)) as u32
+}
+
+#[cfg(test)]
+mod tests {
+    use super::*;
+
+    /// Document 01's sheet S.
+    const S: [&str; 8] = [
+        "470200000A",
+        "4C00000101",
+        "44000006020101",
+        "4C01000200",
+        "4C01000101",
+        "4501001E8480",
+        "4E000000003C40",
+        "4E0010C8E03E40",
+    ];
+
+    fn text(lines: &[&str]) -> Vec<u8> {
+        (lines.join("\n") + "\n").into_bytes()
+    }
+
+    /// S with the line of that number, from 1, put in another's place.
+    fn s_with(number: usize, line: &str) -> Vec<u8> {
+        let mut lines = S;
+        lines[number - 1] = line;
+        text(&lines)
+    }
+
+    fn s_and(line: &str) -> Vec<u8> {
+        [text(&S), text(&[line])].concat()
+    }
+
+    fn refusal(text: &[u8]) -> Refusal {
+        read(text).expect_err("the text is refused")
+    }
+
+    /// S with so many copies of its first leaf as to have `count` rules.
+    fn s_with_rules(count: usize) -> Vec<&'static str> {
+        let more = std::iter::repeat_n(S[1], count - 4);
+        S[..5]
+            .iter()
+            .copied()
+            .chain(more)
+            .chain(S[5..].iter().copied())
+            .collect()
+    }
+
+    /// A sheet of bars of a second with `per_bar` onsets in each.
+    fn many_onsets(bars: u32, per_bar: u32) -> Vec<u8> {
+        let mut sheet = text(&S[..5]);
+        sheet.extend(format!("45{bars:02X}000F4240\n").bytes());
+        for bar in 0..bars {
+            for i in 0..per_bar {
+                sheet.extend(format!("4E{:08X}3C40\n", bar * 1_000_000 + i * 31_250).bytes());
+            }
+        }
+        sheet
+    }
+
+    #[test]
+    fn s_is_accepted() {
+        let sheet = read(&text(&S)).unwrap();
+        assert_eq!(
+            (sheet.nonterminals, sheet.start, sheet.multiplier),
+            (2, 0, 10)
+        );
+        assert_eq!((sheet.bars, sheet.duration), (1, 2_000_000));
+        assert_eq!(sheet.onsets, [(0, 60), (11_088, 62)]);
+        let leaf = |head, weight, n| Rule::Leaf { head, weight, n };
+        let parts = [1, 1, 0, 0, 0, 0, 0, 0];
+        let division = Rule::Division {
+            head: 0,
+            weight: 6,
+            arity: 2,
+            parts,
+        };
+        assert_eq!(
+            sheet.rules,
+            [leaf(0, 1, 1), division, leaf(1, 2, 0), leaf(1, 1, 1)]
+        );
+        assert_eq!(lengths(&sheet), 7);
+        assert_eq!(work_cells(&sheet), 464);
+        assert_eq!(tree_bytes(&sheet), 161);
+    }
+
+    #[test]
+    fn lengths_reached_by_several_arities() {
+        let count = |lines: &[&str]| {
+            let rules = text(&[&S[..1], lines, &S[5..]].concat());
+            lengths(&read(&rules).unwrap())
+        };
+        assert_eq!(count(&["4C00000101"]), 1);
+        assert_eq!(count(&["44000000020000", "4400000003000000"]), 21);
+        assert_eq!(count(&["440000000400000000"]), 4);
+        let all: Vec<String> = (2..=8)
+            .map(|k| format!("44000000{k:02X}{}", "00".repeat(k)))
+            .collect();
+        let all: Vec<&str> = all.iter().map(String::as_str).collect();
+        assert_eq!(count(&all), BAR_DIVISORS as u64);
+    }
+
+    #[test]
+    fn limits_are_accepted() {
+        assert_eq!(read(&text(&s_with_rules(64))).unwrap().rules.len(), 64);
+        let sheet = read(&many_onsets(16, 32)).unwrap();
+        assert_eq!((sheet.onsets.len(), most_in_a_bar(&sheet)), (512, 32));
+        assert_eq!(sheet.onsets[511].0, 15 * BAR_UNITS + 19_530);
+        assert!(read(&s_with(8, "4E001E847F3E40")).is_ok());
+        // Only the time of S's second onset is against the shortest bar.
+        assert_eq!(refusal(&s_with(6, "4501000003E8")), (7, 8));
+    }
+
+    #[test]
+    fn table_of_refusals() {
+        assert_eq!(refusal(&[b'0'; 16_385]), (1, 0));
+        assert_eq!(refusal(&text(&["4G"])), (2, 1));
+        assert_eq!(refusal(b"4G"), (2, 1));
+        assert_eq!(refusal(&s_with(1, "5800")), (3, 1));
+        assert_eq!(refusal(&s_with(6, "45011E8480")), (4, 6));
+        assert_eq!(refusal(&s_with(6, "4501000003E7")), (5, 6));
+        let falling = [&S[..6], &["4E000000053C40", "4E000000003C40"]].concat();
+        assert_eq!(refusal(&text(&falling)), (6, 8));
+        assert_eq!(refusal(&s_and("4E001E84803C40")), (7, 9));
+        assert_eq!(refusal(&text(&s_with_rules(65))), (8, 66));
+    }
+
+    #[test]
+    fn form() {
+        assert_eq!(refusal(b""), (2, 1));
+        assert_eq!(refusal(b"\n"), (2, 1));
+        assert_eq!(refusal(&s_with(4, "")), (2, 4));
+        assert_eq!(refusal(&s_and("")), (2, 9));
+        assert_eq!(refusal(&s_with(8, "4E0010C8E03E4")), (2, 8));
+        assert_eq!(refusal(&s_with(2, "4c00000101")), (2, 2));
+        assert_eq!(refusal(&text(&S)[..text(&S).len() - 1]), (2, 8));
+        assert_eq!(refusal(&[text(&S), b"4".to_vec()].concat()), (2, 9));
+        assert_eq!(refusal(&s_with(5, "4C01000101\r")), (2, 5));
+    }
+
+    #[test]
+    fn kinds_in_order() {
+        for kept in 1..=6 {
+            assert_eq!(refusal(&text(&S[..kept])), (3, kept as u16 + 1));
+        }
+        assert!(read(&text(&S[..7])).is_ok());
+        assert_eq!(refusal(&text(&S[1..])), (3, 1));
+        assert_eq!(refusal(&text(&[&S[..1], &S[5..]].concat())), (3, 2));
+        assert_eq!(refusal(&text(&[&S[..5], &S[6..]].concat())), (3, 6));
+        assert_eq!(refusal(&s_with(3, S[0])), (3, 3));
+        for line in [S[0], S[1], S[2], S[5], "00", "4F"] {
+            assert_eq!(refusal(&s_and(line)), (3, 9));
+        }
+    }
+
+    #[test]
+    fn fields_in_range() {
+        for head in ["470000000A", "471100000A", "470202000A", "4702FF000A"] {
+            assert_eq!(refusal(&s_with(1, head)), (5, 1));
+        }
+        for rule in [
+            "4C02000101",
+            "4C00000104",
+            "44020006020101",
+            "44000006020201",
+        ] {
+            assert_eq!(refusal(&s_with(3, rule)), (5, 3));
+        }
+        for playing in [
+            "4500001E8480",
+            "4541001E8480",
+            "450103938701",
+            "4501FFFFFFFF",
+        ] {
+            assert_eq!(refusal(&s_with(6, playing)), (5, 6));
+        }
+        for onset in ["4E000000008040", "4E000000003C00", "4E000000003C80"] {
+            assert_eq!(refusal(&s_with(7, onset)), (5, 7));
+        }
+        assert!(read(&s_with(6, "4540001E8480")).is_ok());
+        assert!(read(&s_with(6, "450103938700")).is_ok());
+        assert!(read(&s_with(7, "4E000000007F7F")).is_ok());
+        assert!(read(&s_with(7, "4E000000000001")).is_ok());
+    }
+
+    #[test]
+    fn division_order() {
+        // Fewer than five bytes, then the arity, then the count, then names.
+        assert_eq!(refusal(&s_with(3, "44FF0006")), (4, 3));
+        assert_eq!(refusal(&s_with(3, "440000060101")), (5, 3));
+        assert_eq!(refusal(&s_with(3, "4400000609")), (5, 3));
+        assert_eq!(refusal(&s_with(3, "44FF00060201")), (4, 3));
+        assert_eq!(refusal(&s_with(3, "44FF000602FFFFFF")), (4, 3));
+        assert_eq!(refusal(&s_with(3, "440000060201FF")), (5, 3));
+        // The arity is also found in a line longer than any right one.
+        for more in [8, 9, 12, 13, 251, 252, 300] {
+            let line = |arity| format!("44000006{arity}{}", "01".repeat(more + 1));
+            assert_eq!(refusal(&s_with(3, &line("08"))), (4, 3));
+            assert_eq!(refusal(&s_with(3, &line("09"))), (5, 3));
+        }
+    }
+
+    #[test]
+    fn form_of_a_later_line_goes_first() {
+        let mut lines = S;
+        (lines[0], lines[7]) = ("5800", "4E0010C8E03E4");
+        assert_eq!(refusal(&text(&lines)), (2, 8));
+        assert_eq!(refusal(&[text(&S[..3]), b"4E".to_vec()].concat()), (2, 4));
+        assert_eq!(refusal(&[b'G'; 16_384]), (2, 1));
+    }
+
+    #[test]
+    fn line_goes_before_number() {
+        let mut lines = S;
+        (lines[3], lines[5]) = ("4C01000204", "5800");
+        assert_eq!(refusal(&text(&lines)), (5, 4));
+    }
+
+    #[test]
+    fn numbers_within_a_line() {
+        assert_eq!(refusal(&s_with(1, "5800")), (3, 1));
+        assert_eq!(refusal(&s_and("4E00000000FF")), (4, 9));
+        assert_eq!(refusal(&s_and("4E00000000FF40")), (5, 9));
+        assert_eq!(refusal(&s_and("4EFFFFFFFFFF40")), (5, 9));
+        assert_eq!(refusal(&s_and("4E000000003C40")), (6, 9));
+    }
+
+    #[test]
+    fn counts_come_last() {
+        let mut rules = s_with_rules(65);
+        for (line, number) in [("4C000001", 4), ("4C00000104", 5), ("4C00000101", 8)] {
+            rules[65] = line;
+            assert_eq!(refusal(&text(&rules)), (number, 66));
+        }
+        let full = |line: &str| refusal(&[many_onsets(16, 32), text(&[line])].concat());
+        assert_eq!(full("44"), (3, 519));
+        assert_eq!(full("4E"), (4, 519));
+        assert_eq!(full("4E00F423FF3C00"), (5, 519));
+        assert_eq!(full("4E000000003C40"), (6, 519));
+        assert_eq!(full("4E00F424003C40"), (7, 519));
+        assert_eq!(full("4E00F423FF3C40"), (8, 519));
+        let roomy = [many_onsets(64, 8), text(&["4E03D08FFF3C40"])].concat();
+        assert_eq!(refusal(&roomy), (8, 519));
+        let crowded = [many_onsets(2, 32), text(&["4E001E847F3C40"])].concat();
+        assert_eq!(refusal(&crowded), (8, 71));
+    }
+}

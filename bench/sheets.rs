@@ -1,0 +1,920 @@
+//! Sheets to compare readings on: valid ones, ones damaged on purpose, and
+//! texts that are hardly sheets at all; and one fixed sheet for timing.
+
+/// A refusal's number and line; (0, 0) for an accepted sheet.
+pub type Outcome = (u8, u16);
+
+/// A text and, where the way it was made settles it, the outcome it must have.
+pub struct Case {
+    pub text: Vec<u8>,
+    pub made: &'static str,
+    pub aim: Option<Outcome>,
+}
+
+const MAX_TEXT: usize = 16_384;
+const MAX_BAR_ONSETS: usize = 32;
+const MAX_ONSETS: usize = 512;
+const MAX_RULES: usize = 64;
+const KINDS: [u8; 5] = [0x47, 0x44, 0x4C, 0x45, 0x4E];
+const DIGITS: &[u8; 16] = b"0123456789ABCDEF";
+
+/// Seeded throws: xorshift64*.
+pub struct Dice(u64);
+
+impl Dice {
+    pub fn new(seed: u64) -> Dice {
+        // Spread the seed, so that near seeds part at once; the state must not be 0.
+        let mut dice = Dice(seed.wrapping_mul(0x9E37_79B9_7F4A_7C15) | 1);
+        for _ in 0..8 {
+            dice.next();
+        }
+        dice
+    }
+
+    fn next(&mut self) -> u64 {
+        self.0 ^= self.0 >> 12;
+        self.0 ^= self.0 << 25;
+        self.0 ^= self.0 >> 27;
+        self.0.wrapping_mul(0x2545_F491_4F6C_DD1D) >> 16
+    }
+
+    pub fn below(&mut self, bound: usize) -> usize {
+        (self.next() % bound as u64) as usize
+    }
+
+    fn between(&mut self, low: usize, high: usize) -> usize {
+        low + self.below(high - low + 1)
+    }
+
+    /// As `between`, with each bound a good deal likelier than the rest.
+    fn between_edged(&mut self, low: usize, high: usize) -> usize {
+        match self.below(8) {
+            0 => low,
+            1 => high,
+            _ => self.between(low, high),
+        }
+    }
+
+    fn one_in(&mut self, chances: usize) -> bool {
+        self.below(chances) == 0
+    }
+
+    fn byte(&mut self) -> u8 {
+        self.below(256) as u8
+    }
+
+    fn digit(&mut self) -> u8 {
+        self.pick(DIGITS)
+    }
+
+    fn pick<T: Copy>(&mut self, from: &[T]) -> T {
+        from[self.below(from.len())]
+    }
+}
+
+/// A sheet as lines of bytes, not yet written in digits.
+struct Draft {
+    lines: Vec<Vec<u8>>,
+    nonterminals: usize,
+    rules: usize,
+    bars: usize,
+    duration: usize,
+}
+
+impl Draft {
+    fn playing_head(&self) -> usize {
+        self.rules + 1
+    }
+
+    fn first_onset(&self) -> usize {
+        self.rules + 2
+    }
+
+    fn any_line(&self, dice: &mut Dice) -> usize {
+        dice.below(self.lines.len())
+    }
+
+    fn any_rule(&self, dice: &mut Dice) -> usize {
+        dice.between(1, self.rules)
+    }
+
+    fn any_onset(&self, dice: &mut Dice) -> usize {
+        dice.between(self.first_onset(), self.lines.len() - 1)
+    }
+
+    fn time(&self, at: usize) -> usize {
+        let line = &self.lines[at];
+        u32::from_be_bytes([line[1], line[2], line[3], line[4]]) as usize
+    }
+
+    fn set_time(&mut self, at: usize, time: usize) {
+        self.lines[at][1..5].copy_from_slice(&(time as u32).to_be_bytes());
+    }
+
+    fn end(&self) -> usize {
+        self.bars * self.duration
+    }
+
+    fn text(&self) -> Vec<u8> {
+        let mut text = Vec::with_capacity(MAX_TEXT);
+        for line in &self.lines {
+            write_line(&mut text, line);
+        }
+        text
+    }
+}
+
+fn write_line(text: &mut Vec<u8>, line: &[u8]) {
+    for byte in line {
+        text.push(DIGITS[usize::from(byte >> 4)]);
+        text.push(DIGITS[usize::from(byte & 15)]);
+    }
+    text.push(b'\n');
+}
+
+/// A line's number, counted from 1.
+fn number(at: usize) -> u16 {
+    at as u16 + 1
+}
+
+// Valid sheets.
+
+fn draft(dice: &mut Dice) -> Draft {
+    let bars = dice.between_edged(1, 64);
+    let most = MAX_ONSETS.min(bars * MAX_BAR_ONSETS);
+    // Most sheets are short, so that a run meets many.
+    let few = most.min(24);
+    let onsets = if dice.one_in(3) {
+        dice.between_edged(1, most)
+    } else {
+        dice.between(1, few)
+    };
+    let rules = dice.between_edged(1, MAX_RULES);
+    draft_of(dice, rules, bars, onsets)
+}
+
+fn draft_of(dice: &mut Dice, rules: usize, bars: usize, onsets: usize) -> Draft {
+    let nonterminals = dice.between_edged(1, 16);
+    let duration = duration(dice);
+    let mut lines = vec![grammar_head(dice, nonterminals)];
+    for _ in 0..rules {
+        lines.push(rule(dice, nonterminals));
+    }
+    lines.push(playing_head(bars, duration));
+    for time in times(dice, bars, duration, onsets) {
+        lines.push(onset(dice, time));
+    }
+    Draft {
+        lines,
+        nonterminals,
+        rules,
+        bars,
+        duration,
+    }
+}
+
+fn duration(dice: &mut Dice) -> usize {
+    // A random width first: short bars make equal units and bar lines likely.
+    let widest = 60_000_000 >> dice.below(16);
+    dice.between_edged(1_000, widest.max(1_000))
+}
+
+fn grammar_head(dice: &mut Dice, nonterminals: usize) -> Vec<u8> {
+    let start = dice.below(nonterminals) as u8;
+    vec![0x47, nonterminals as u8, start, dice.byte(), dice.byte()]
+}
+
+fn rule(dice: &mut Dice, nonterminals: usize) -> Vec<u8> {
+    let arity = dice.between(2, 8);
+    if dice.one_in(2) {
+        leaf(dice, nonterminals)
+    } else {
+        division(dice, nonterminals, arity)
+    }
+}
+
+fn leaf(dice: &mut Dice, nonterminals: usize) -> Vec<u8> {
+    let head = dice.below(nonterminals) as u8;
+    vec![0x4C, head, dice.byte(), dice.byte(), dice.below(4) as u8]
+}
+
+fn division(dice: &mut Dice, nonterminals: usize, arity: usize) -> Vec<u8> {
+    let head = dice.below(nonterminals) as u8;
+    let mut line = vec![0x44, head, dice.byte(), dice.byte(), arity as u8];
+    line.extend((0..arity).map(|_| dice.below(nonterminals) as u8));
+    line
+}
+
+fn playing_head(bars: usize, duration: usize) -> Vec<u8> {
+    let mut line = vec![0x45, bars as u8];
+    line.extend((duration as u32).to_be_bytes());
+    line
+}
+
+fn onset(dice: &mut Dice, time: usize) -> Vec<u8> {
+    let mut line = vec![0x4E];
+    line.extend((time as u32).to_be_bytes());
+    line.push(dice.between_edged(0, 127) as u8);
+    line.push(dice.between_edged(1, 127) as u8);
+    line
+}
+
+/// Times in order, at most 32 in a bar.
+fn times(dice: &mut Dice, bars: usize, duration: usize, onsets: usize) -> Vec<usize> {
+    let mut in_bar = vec![0; bars];
+    let mut times = Vec::with_capacity(onsets + 1);
+    for _ in 0..onsets {
+        let mut bar = dice.below(bars);
+        while in_bar[bar] == MAX_BAR_ONSETS {
+            bar = (bar + 1) % bars;
+        }
+        in_bar[bar] += 1;
+        let before = times.last().copied();
+        times.push(time_in(dice, bar, duration, before));
+    }
+    times.sort_unstable();
+    times
+}
+
+fn time_in(dice: &mut Dice, bar: usize, duration: usize, before: Option<usize>) -> usize {
+    let left = bar * duration;
+    match (dice.below(8), before) {
+        (0, _) => left,
+        (1, _) => left + duration - 1,
+        (2, _) => left + duration / 2,
+        (3, Some(time)) if time / duration == bar => time,
+        _ => left + dice.below(duration),
+    }
+}
+
+// Damage to a draft: each gives the outcome it must have, if it settles one.
+
+type Damage = (&'static str, fn(&mut Dice, &mut Draft) -> Option<Outcome>);
+
+const DAMAGES: [Damage; 34] = [
+    ("unknown kind", unknown_kind),
+    ("kind out of order", kind_out_of_order),
+    ("any other kind", any_other_kind),
+    ("lines swapped", lines_swapped),
+    ("head dropped", head_dropped),
+    ("rules dropped", rules_dropped),
+    ("line dropped", line_dropped),
+    ("head doubled", head_doubled),
+    ("line doubled", line_doubled),
+    ("ends before an onset", ends_before_an_onset),
+    ("bytes added", bytes_added),
+    ("bytes removed", bytes_removed),
+    ("division one part short", division_one_part_short),
+    ("bytes removed and names too large", short_with_large_names),
+    ("nonterminals out of range", nonterminals_out_of_range),
+    ("start out of range", start_out_of_range),
+    ("rule's head out of range", rule_head_out_of_range),
+    ("part out of range", part_out_of_range),
+    ("arity out of range", arity_out_of_range),
+    ("leaf's n out of range", leaf_n_out_of_range),
+    ("bars out of range", bars_out_of_range),
+    ("duration out of range", duration_out_of_range),
+    ("pitch out of range", pitch_out_of_range),
+    ("velocity out of range", velocity_out_of_range),
+    ("falling time", falling_time),
+    ("falling time, pitch out of range", falling_and_out_of_range),
+    ("time at or past the end", time_past_end),
+    ("fewer bars", fewer_bars),
+    ("rule 65", rule_65),
+    ("rule 65 out of range", rule_65_out_of_range),
+    ("onset 513", onset_513),
+    ("onset 513 at the end", onset_513_past_end),
+    ("onset 513 falling", onset_513_falling),
+    ("onset 33 of a bar", onset_33_of_a_bar),
+];
+
+fn unknown_kind(dice: &mut Dice, draft: &mut Draft) -> Option<Outcome> {
+    let at = draft.any_line(dice);
+    draft.lines[at][0] = loop {
+        let kind = dice.byte();
+        if !KINDS.contains(&kind) {
+            break kind;
+        }
+    };
+    Some((3, number(at)))
+}
+
+fn kind_out_of_order(dice: &mut Dice, draft: &mut Draft) -> Option<Outcome> {
+    // Half of the time near the heads, where the order changes.
+    let near = draft.lines.len().min(draft.first_onset() + 1);
+    let at = match dice.below(4) {
+        0 => 0,
+        1 => dice.between(draft.playing_head() - 1, near - 1),
+        _ => draft.any_line(dice),
+    };
+    let wrong: &[u8] = match at {
+        0 => &[0x44, 0x4C, 0x45, 0x4E],
+        1 => &[0x47, 0x45, 0x4E],
+        _ if at <= draft.playing_head() => &[0x47, 0x4E],
+        _ => &[0x47, 0x44, 0x4C, 0x45],
+    };
+    draft.lines[at][0] = dice.pick(wrong);
+    Some((3, number(at)))
+}
+
+fn any_other_kind(dice: &mut Dice, draft: &mut Draft) -> Option<Outcome> {
+    let at = draft.any_line(dice);
+    draft.lines[at][0] = dice.pick(&KINDS);
+    None
+}
+
+fn lines_swapped(dice: &mut Dice, draft: &mut Draft) -> Option<Outcome> {
+    let (one, other) = (draft.any_line(dice), draft.any_line(dice));
+    draft.lines.swap(one, other);
+    None
+}
+
+/// One of the two heads.
+fn any_head(dice: &mut Dice, draft: &Draft) -> usize {
+    dice.pick(&[0, draft.playing_head()])
+}
+
+fn head_dropped(dice: &mut Dice, draft: &mut Draft) -> Option<Outcome> {
+    let at = any_head(dice, draft);
+    draft.lines.remove(at);
+    Some((3, number(at)))
+}
+
+fn rules_dropped(_: &mut Dice, draft: &mut Draft) -> Option<Outcome> {
+    draft.lines.drain(1..=draft.rules);
+    Some((3, 2))
+}
+
+fn line_dropped(dice: &mut Dice, draft: &mut Draft) -> Option<Outcome> {
+    let at = draft.any_line(dice);
+    draft.lines.remove(at);
+    None
+}
+
+fn head_doubled(dice: &mut Dice, draft: &mut Draft) -> Option<Outcome> {
+    let at = any_head(dice, draft);
+    draft.lines.insert(at, draft.lines[at].clone());
+    Some((3, number(at + 1)))
+}
+
+fn line_doubled(dice: &mut Dice, draft: &mut Draft) -> Option<Outcome> {
+    let at = draft.any_line(dice);
+    draft.lines.insert(at, draft.lines[at].clone());
+    None
+}
+
+fn ends_before_an_onset(dice: &mut Dice, draft: &mut Draft) -> Option<Outcome> {
+    let kept = dice.between_edged(1, draft.first_onset());
+    draft.lines.truncate(kept);
+    Some((3, number(kept)))
+}
+
+/// A line of any of the five kinds, each about as likely.
+fn line_of_any_kind(dice: &mut Dice, draft: &Draft) -> usize {
+    match dice.below(4) {
+        0 => any_head(dice, draft),
+        1 => draft.any_onset(dice),
+        _ => draft.any_rule(dice),
+    }
+}
+
+fn bytes_added(dice: &mut Dice, draft: &mut Draft) -> Option<Outcome> {
+    let at = line_of_any_kind(dice, draft);
+    let more = if dice.one_in(4) {
+        // Also counts that would come out right in a byte.
+        dice.between_edged(10, 256)
+    } else {
+        dice.between(1, 4)
+    };
+    draft.lines[at].extend((0..more).map(|_| dice.byte()));
+    Some((4, number(at)))
+}
+
+fn bytes_removed(dice: &mut Dice, draft: &mut Draft) -> Option<Outcome> {
+    let at = line_of_any_kind(dice, draft);
+    let kept = dice.between(1, draft.lines[at].len() - 1);
+    draft.lines[at].truncate(kept);
+    Some((4, number(at)))
+}
+
+/// Puts a line in the place of some rule.
+fn fresh_rule(dice: &mut Dice, draft: &mut Draft, line: Vec<u8>) -> usize {
+    let at = draft.any_rule(dice);
+    draft.lines[at] = line;
+    at
+}
+
+fn fresh_division(dice: &mut Dice, draft: &mut Draft) -> usize {
+    let arity = dice.between(2, 8);
+    let line = division(dice, draft.nonterminals, arity);
+    fresh_rule(dice, draft, line)
+}
+
+fn division_one_part_short(dice: &mut Dice, draft: &mut Draft) -> Option<Outcome> {
+    let at = fresh_division(dice, draft);
+    draft.lines[at].pop();
+    Some((4, number(at)))
+}
+
+fn short_with_large_names(dice: &mut Dice, draft: &mut Draft) -> Option<Outcome> {
+    let at = fresh_division(dice, draft);
+    let line = &mut draft.lines[at];
+    line[1] = 0xFF;
+    line.truncate(dice.between(1, line.len() - 1));
+    Some((4, number(at)))
+}
+
+fn nonterminals_out_of_range(dice: &mut Dice, draft: &mut Draft) -> Option<Outcome> {
+    draft.lines[0][1] = if dice.one_in(3) {
+        0
+    } else {
+        dice.between_edged(17, 255) as u8
+    };
+    Some((5, 1))
+}
+
+/// A name not below Q.
+fn large_name(dice: &mut Dice, draft: &Draft) -> u8 {
+    dice.between_edged(draft.nonterminals, 255) as u8
+}
+
+fn start_out_of_range(dice: &mut Dice, draft: &mut Draft) -> Option<Outcome> {
+    draft.lines[0][2] = large_name(dice, draft);
+    Some((5, 1))
+}
+
+fn rule_head_out_of_range(dice: &mut Dice, draft: &mut Draft) -> Option<Outcome> {
+    let at = draft.any_rule(dice);
+    draft.lines[at][1] = large_name(dice, draft);
+    Some((5, number(at)))
+}
+
+fn part_out_of_range(dice: &mut Dice, draft: &mut Draft) -> Option<Outcome> {
+    let at = fresh_division(dice, draft);
+    let part = dice.between_edged(5, draft.lines[at].len() - 1);
+    draft.lines[at][part] = large_name(dice, draft);
+    Some((5, number(at)))
+}
+
+/// The arity is judged before the count, so the parts may be any.
+fn arity_out_of_range(dice: &mut Dice, draft: &mut Draft) -> Option<Outcome> {
+    let at = fresh_division(dice, draft);
+    let arity = match dice.below(4) {
+        0 => dice.below(2),
+        _ => dice.between_edged(9, 255),
+    };
+    let parts = dice.pick(&[0, 1, 2, 8, arity]);
+    let line = &mut draft.lines[at];
+    line[4] = arity as u8;
+    line.resize(5 + parts, 0);
+    Some((5, number(at)))
+}
+
+fn leaf_n_out_of_range(dice: &mut Dice, draft: &mut Draft) -> Option<Outcome> {
+    let line = leaf(dice, draft.nonterminals);
+    let at = fresh_rule(dice, draft, line);
+    draft.lines[at][4] = dice.between_edged(4, 255) as u8;
+    Some((5, number(at)))
+}
+
+fn bars_out_of_range(dice: &mut Dice, draft: &mut Draft) -> Option<Outcome> {
+    let at = draft.playing_head();
+    draft.lines[at][1] = if dice.one_in(3) {
+        0
+    } else {
+        dice.between_edged(65, 255) as u8
+    };
+    Some((5, number(at)))
+}
+
+fn duration_out_of_range(dice: &mut Dice, draft: &mut Draft) -> Option<Outcome> {
+    let duration = if dice.one_in(2) {
+        dice.between_edged(0, 999)
+    } else {
+        dice.between_edged(60_000_001, u32::MAX as usize)
+    };
+    let at = draft.playing_head();
+    draft.lines[at] = playing_head(draft.bars, duration);
+    Some((5, number(at)))
+}
+
+fn pitch_out_of_range(dice: &mut Dice, draft: &mut Draft) -> Option<Outcome> {
+    let at = draft.any_onset(dice);
+    draft.lines[at][5] = dice.between_edged(128, 255) as u8;
+    Some((5, number(at)))
+}
+
+fn velocity_out_of_range(dice: &mut Dice, draft: &mut Draft) -> Option<Outcome> {
+    let at = draft.any_onset(dice);
+    draft.lines[at][6] = if dice.one_in(2) {
+        0
+    } else {
+        dice.between_edged(128, 255) as u8
+    };
+    Some((5, number(at)))
+}
+
+fn falling_time(dice: &mut Dice, draft: &mut Draft) -> Option<Outcome> {
+    let second = draft.first_onset() + 1;
+    let falls: Vec<usize> = (second..draft.lines.len())
+        .filter(|&at| draft.time(at - 1) > 0)
+        .collect();
+    if falls.is_empty() {
+        return None;
+    }
+    let at = dice.pick(&falls);
+    let time = dice.between_edged(0, draft.time(at - 1) - 1);
+    draft.set_time(at, time);
+    Some((6, number(at)))
+}
+
+fn falling_and_out_of_range(dice: &mut Dice, draft: &mut Draft) -> Option<Outcome> {
+    let (_, line) = falling_time(dice, draft)?;
+    draft.lines[usize::from(line) - 1][5] = 0x80;
+    Some((5, line))
+}
+
+fn time_past_end(dice: &mut Dice, draft: &mut Draft) -> Option<Outcome> {
+    let at = draft.any_onset(dice);
+    let time = past_end(dice, draft);
+    draft.set_time(at, time);
+    Some((7, number(at)))
+}
+
+fn past_end(dice: &mut Dice, draft: &Draft) -> usize {
+    dice.between_edged(draft.end(), u32::MAX as usize)
+}
+
+fn fewer_bars(dice: &mut Dice, draft: &mut Draft) -> Option<Outcome> {
+    let at = draft.playing_head();
+    draft.bars = dice.between(1, draft.bars);
+    draft.lines[at][1] = draft.bars as u8;
+    let late = (draft.first_onset()..draft.lines.len()).find(|&at| draft.time(at) >= draft.end());
+    Some(late.map_or((0, 0), |at| (7, number(at))))
+}
+
+fn rule_65(dice: &mut Dice, draft: &mut Draft) -> Option<Outcome> {
+    let wanted = MAX_RULES + dice.between(1, 3);
+    while draft.rules < wanted {
+        let line = rule(dice, draft.nonterminals);
+        draft.lines.insert(draft.playing_head(), line);
+        draft.rules += 1;
+    }
+    Some((8, number(MAX_RULES + 1)))
+}
+
+fn rule_65_out_of_range(dice: &mut Dice, draft: &mut Draft) -> Option<Outcome> {
+    let (_, line) = rule_65(dice, draft)?;
+    draft.lines[usize::from(line) - 1][1] = large_name(dice, draft);
+    Some((5, line))
+}
+
+/// Puts a sheet of 513 onsets in the draft's place; gives the last's place.
+fn add_onset_513(dice: &mut Dice, draft: &mut Draft) -> usize {
+    let rules = dice.between(1, MAX_RULES);
+    let bars = dice.between_edged(16, 64);
+    *draft = draft_of(dice, rules, bars, MAX_ONSETS);
+    let last = draft.time(draft.lines.len() - 1);
+    let time = dice.between_edged(last, draft.end() - 1);
+    draft.lines.push(onset(dice, time));
+    draft.lines.len() - 1
+}
+
+fn onset_513(dice: &mut Dice, draft: &mut Draft) -> Option<Outcome> {
+    let at = add_onset_513(dice, draft);
+    Some((8, number(at)))
+}
+
+fn onset_513_past_end(dice: &mut Dice, draft: &mut Draft) -> Option<Outcome> {
+    let at = add_onset_513(dice, draft);
+    let time = past_end(dice, draft);
+    draft.set_time(at, time);
+    Some((7, number(at)))
+}
+
+/// Of 512 onsets in sixteen bars or more the last is never at 0.
+fn onset_513_falling(dice: &mut Dice, draft: &mut Draft) -> Option<Outcome> {
+    let at = add_onset_513(dice, draft);
+    let time = dice.between_edged(0, draft.time(at - 1) - 1);
+    draft.set_time(at, time);
+    Some((6, number(at)))
+}
+
+fn onset_33_of_a_bar(dice: &mut Dice, draft: &mut Draft) -> Option<Outcome> {
+    let bar = dice.below(draft.bars);
+    let (left, right) = (bar * draft.duration, (bar + 1) * draft.duration);
+    let first = draft.first_onset();
+    let place = |draft: &Draft, time| {
+        let onsets = first..draft.lines.len();
+        onsets.take_while(|&at| draft.time(at) < time).count() + first
+    };
+    let wanted = MAX_BAR_ONSETS + dice.between(1, 3);
+    while place(draft, right) - place(draft, left) < wanted {
+        let time = time_in(dice, bar, draft.duration, None);
+        let line = onset(dice, time);
+        draft.lines.insert(place(draft, time), line);
+    }
+    let in_bar = place(draft, left) + MAX_BAR_ONSETS;
+    // The added onsets may have pushed onset 513 in before.
+    Some((8, number(in_bar.min(first + MAX_ONSETS))))
+}
+
+// Damage to the form of a text of closed lines. Whatever else is wrong with
+// the text, refusal 2 goes first.
+
+type FormDamage = (&'static str, fn(&mut Dice, &mut Vec<u8>) -> Outcome);
+
+const FORM_DAMAGES: [FormDamage; 8] = [
+    ("foreign byte", foreign_byte),
+    ("lower case", lower_case),
+    ("digit removed", digit_removed),
+    ("digit added", digit_added),
+    ("empty line", empty_line),
+    ("carriage return", carriage_return),
+    ("last line not closed", end_dropped),
+    ("unclosed line added", unclosed_line_added),
+];
+
+/// The place of some digit, and its line's number.
+fn any_digit(dice: &mut Dice, text: &[u8]) -> (usize, u16) {
+    loop {
+        let at = dice.below(text.len());
+        if text[at] != b'\n' {
+            return (at, line_at(text, at));
+        }
+    }
+}
+
+fn line_at(text: &[u8], at: usize) -> u16 {
+    let closed = text[..at].iter().filter(|&&byte| byte == b'\n').count();
+    number(closed)
+}
+
+/// The places where a line begins, and last the end of the text.
+fn line_starts(text: &[u8]) -> Vec<usize> {
+    let ends = text.iter().enumerate().filter(|(_, &byte)| byte == b'\n');
+    std::iter::once(0)
+        .chain(ends.map(|(at, _)| at + 1))
+        .collect()
+}
+
+fn foreign_byte(dice: &mut Dice, text: &mut Vec<u8>) -> Outcome {
+    let (at, line) = any_digit(dice, text);
+    text[at] = loop {
+        // The neighbours of the digits' ranges are likeliest to slip through.
+        let byte = match dice.below(2) {
+            0 => dice.pick(b"/:@G`g \t\r\0\x0b\x7f\x80\xff"),
+            _ => dice.byte(),
+        };
+        if byte != b'\n' && !DIGITS.contains(&byte) {
+            break byte;
+        }
+    };
+    (2, line)
+}
+
+fn lower_case(dice: &mut Dice, text: &mut Vec<u8>) -> Outcome {
+    let (at, line) = any_digit(dice, text);
+    text[at] = dice.pick(b"abcdef");
+    (2, line)
+}
+
+fn digit_removed(dice: &mut Dice, text: &mut Vec<u8>) -> Outcome {
+    let (at, line) = any_digit(dice, text);
+    text.remove(at);
+    (2, line)
+}
+
+fn digit_added(dice: &mut Dice, text: &mut Vec<u8>) -> Outcome {
+    let (at, line) = any_digit(dice, text);
+    text.insert(at, dice.digit());
+    (2, line)
+}
+
+fn empty_line(dice: &mut Dice, text: &mut Vec<u8>) -> Outcome {
+    let starts = line_starts(text);
+    let line = dice.between_edged(0, starts.len() - 1);
+    text.insert(starts[line], b'\n');
+    (2, number(line))
+}
+
+fn carriage_return(dice: &mut Dice, text: &mut Vec<u8>) -> Outcome {
+    let starts = line_starts(text);
+    let line = dice.below(starts.len() - 1);
+    text.insert(starts[line + 1] - 1, b'\r');
+    (2, number(line))
+}
+
+fn end_dropped(_: &mut Dice, text: &mut Vec<u8>) -> Outcome {
+    text.pop();
+    (2, line_at(text, text.len()))
+}
+
+fn unclosed_line_added(dice: &mut Dice, text: &mut Vec<u8>) -> Outcome {
+    let line = line_at(text, text.len());
+    for _ in 0..dice.between(1, 16) {
+        text.push(dice.digit());
+    }
+    (2, line)
+}
+
+// Texts made as a whole.
+
+type Make = (&'static str, fn(&mut Dice) -> (Vec<u8>, Option<Outcome>));
+
+const MAKES: [Make; 10] = [
+    ("text cut", text_cut),
+    ("text cut after a line", text_cut_after_line),
+    ("byte changed", byte_changed),
+    ("digits changed", digits_changed),
+    ("random bytes", random_bytes),
+    ("random digits and line ends", random_digits),
+    ("random lines", random_lines),
+    ("many short lines", many_short_lines),
+    ("near the longest text, long lines", long_lines_near_limit),
+    ("near the longest text, onsets", onsets_near_limit),
+];
+
+fn text_cut(dice: &mut Dice) -> (Vec<u8>, Option<Outcome>) {
+    let mut text = draft(dice).text();
+    text.truncate(dice.between_edged(0, text.len() - 1));
+    (text, None)
+}
+
+fn text_cut_after_line(dice: &mut Dice) -> (Vec<u8>, Option<Outcome>) {
+    let mut text = draft(dice).text();
+    let starts = line_starts(&text);
+    text.truncate(dice.pick(&starts));
+    (text, None)
+}
+
+fn byte_changed(dice: &mut Dice) -> (Vec<u8>, Option<Outcome>) {
+    let mut text = draft(dice).text();
+    let at = dice.below(text.len());
+    text[at] = dice.byte();
+    (text, None)
+}
+
+/// Keeps the form, so that the later refusals are reached.
+fn digits_changed(dice: &mut Dice) -> (Vec<u8>, Option<Outcome>) {
+    let mut text = draft(dice).text();
+    for _ in 0..dice.between(1, 3) {
+        let (at, _) = any_digit(dice, &text);
+        text[at] = dice.digit();
+    }
+    (text, None)
+}
+
+fn random_bytes(dice: &mut Dice) -> (Vec<u8>, Option<Outcome>) {
+    let count = dice.between_edged(0, 200);
+    ((0..count).map(|_| dice.byte()).collect(), None)
+}
+
+fn random_digits(dice: &mut Dice) -> (Vec<u8>, Option<Outcome>) {
+    let count = dice.between_edged(0, 60);
+    let text = (0..count).map(|_| match dice.below(6) {
+        0 => b'\n',
+        _ => dice.digit(),
+    });
+    (text.collect(), None)
+}
+
+/// Well-formed lines of known kinds and any bytes after.
+fn random_lines(dice: &mut Dice) -> (Vec<u8>, Option<Outcome>) {
+    let mut text = Vec::new();
+    for at in 0..dice.between(1, 8) {
+        let kind = if at == 0 { 0x47 } else { dice.pick(&KINDS) };
+        let more = dice.between(3, 7);
+        let line = std::iter::once(kind).chain((0..more).map(|_| dice.below(9) as u8));
+        write_line(&mut text, &line.collect::<Vec<u8>>());
+    }
+    (text, None)
+}
+
+/// Up to as many lines as a text can hold. The first is refused by its count,
+/// unless the form is damaged, which may be on a line of a large number.
+fn many_short_lines(dice: &mut Dice) -> (Vec<u8>, Option<Outcome>) {
+    let lines = dice.between_edged(1, MAX_TEXT / 3);
+    let mut text = b"47\n".repeat(lines);
+    if dice.one_in(4) {
+        return (text, Some((4, 1)));
+    }
+    let (_, damage) = dice.pick(&FORM_DAMAGES);
+    let within = damage(dice, &mut text);
+    near_limit(text, within)
+}
+
+/// From two bytes below the longest text to two bytes above it.
+fn length_near_limit(dice: &mut Dice) -> usize {
+    MAX_TEXT - 2 + dice.below(5)
+}
+
+/// Refusal 1 if the text is too long, else what its lines are refused for.
+fn near_limit(text: Vec<u8>, within: Outcome) -> (Vec<u8>, Option<Outcome>) {
+    let aim = if text.len() > MAX_TEXT {
+        (1, 0)
+    } else {
+        within
+    };
+    (text, Some(aim))
+}
+
+/// A valid sheet and then onset lines of wrong counts, up to the wanted length.
+fn long_lines_near_limit(dice: &mut Dice) -> (Vec<u8>, Option<Outcome>) {
+    let length = length_near_limit(dice);
+    let mut text = draft(dice).text();
+    let line = line_at(&text, text.len());
+    pad(&mut text, length);
+    near_limit(text, (4, line))
+}
+
+/// A closed line has an odd number of bytes, so one or two lines meet any length.
+fn pad(text: &mut Vec<u8>, length: usize) {
+    if (length - text.len()) % 2 == 0 {
+        write_line(text, &[0x4E]);
+    }
+    let bytes = (length - text.len() - 1) / 2;
+    write_line(text, &vec![0x4E; bytes]);
+}
+
+/// A sheet whose last onset is repeated far past what a bar may hold.
+fn onsets_near_limit(dice: &mut Dice) -> (Vec<u8>, Option<Outcome>) {
+    let length = length_near_limit(dice);
+    let draft = draft_of(dice, 3, 1, 1);
+    let mut text = draft.text();
+    while text.len() + 100 < length {
+        write_line(&mut text, &draft.lines[draft.first_onset()]);
+    }
+    pad(&mut text, length);
+    near_limit(text, (8, number(draft.first_onset() + MAX_BAR_ONSETS)))
+}
+
+/// The next text to compare on.
+pub fn case(dice: &mut Dice) -> Case {
+    match dice.below(8) {
+        0 | 1 => valid(dice),
+        2..=5 => damaged(dice),
+        6 => badly_formed(dice),
+        _ => made(dice),
+    }
+}
+
+fn valid(dice: &mut Dice) -> Case {
+    Case {
+        text: draft(dice).text(),
+        made: "valid sheet",
+        aim: Some((0, 0)),
+    }
+}
+
+fn damaged(dice: &mut Dice) -> Case {
+    let (made, damage) = dice.pick(&DAMAGES);
+    let mut draft = draft(dice);
+    let aim = damage(dice, &mut draft);
+    let mut text = draft.text();
+    // Now and then also a badly formed line, which must go first.
+    if dice.one_in(6) {
+        let (made, damage) = dice.pick(&FORM_DAMAGES);
+        let aim = Some(damage(dice, &mut text));
+        return Case { text, made, aim };
+    }
+    Case { text, made, aim }
+}
+
+fn badly_formed(dice: &mut Dice) -> Case {
+    let (made, damage) = dice.pick(&FORM_DAMAGES);
+    let mut text = draft(dice).text();
+    let aim = Some(damage(dice, &mut text));
+    Case { text, made, aim }
+}
+
+fn made(dice: &mut Dice) -> Case {
+    let (made, make) = dice.pick(&MAKES);
+    let (text, aim) = make(dice);
+    Case { text, made, aim }
+}
+
+/// The sheet for timing, always the same: twelve rules, of which six divide
+/// by 2 or 3, and 512 onsets spread unevenly over 24 bars.
+pub fn timing_sheet() -> Vec<u8> {
+    const NONTERMINALS: usize = 4;
+    const BARS: usize = 24;
+    const DURATION: usize = 1_987_654;
+    let mut dice = Dice::new(512);
+    let mut lines = vec![grammar_head(&mut dice, NONTERMINALS)];
+    for arity in [2, 3, 2, 3, 2, 3] {
+        lines.push(division(&mut dice, NONTERMINALS, arity));
+        lines.push(leaf(&mut dice, NONTERMINALS));
+    }
+    lines.push(playing_head(BARS, DURATION));
+    let step = BARS * DURATION / MAX_ONSETS;
+    for at in 0..MAX_ONSETS {
+        let time = at * step + dice.below(step);
+        lines.push(onset(&mut dice, time));
+    }
+    let mut text = Vec::new();
+    for line in &lines {
+        write_line(&mut text, line);
+    }
+    text
+}

@@ -1,0 +1,92 @@
+-- What the entries need of a reading: its struct is a function of the outcome. Assumes nothing.
+use Prim.Native.Nat.{ℕ, zero, suc, _+_, _≤_, _<_}
+use mathlib.Core.Path.{_≡_, refl, sym, ap, _∙_}
+use mathlib.Core.List.{List, [], map}
+use native.Mathlib.Omega.{arith}
+use native.Mathlib.Nat.{le-trans, le-of-eq}
+use lib.ListN.{length, getD, List·getD-map, List·getD-eq-default}
+use Rattle.slices.specs.Pad.{getD-pad}
+use Rattle.sheet.specs.declared.table.Reading.{Reading}
+use Rattle.sheet.specs.declared.clock.Units.{Units}
+use Rattle.sheet.specs.Sheet.{Onset, Sheet}
+use Rattle.sheet.specs.Reading.{Outcome, refused, accepted, numberIn, lineIn, readSheet}
+use Rattle.sheet.specs.Held.{units, unitsOf, grammarTable, playingTable, readingOf}
+use Rattle.sheet.specs.Good.{Good}
+use Rattle.sheet.specs.GoodLaws.{good}
+use Rattle.sheet.specs.Bounds.{refused-within}
+use Rattle.sizes.specs.Sizes.{workCells, treeBytes}
+use Rattle.cabi.specs.Entries.{checkOf, workOf, treeOf, noOnset, unitAt}
+
+-- a reading's number and line are the outcome's
+numbers : (o : Outcome) → (readingOf o .number ≡ numberIn o) × (readingOf o .line ≡ lineIn o)
+unfolding readingOf
+numbers (refused k n) = (refl, refl)
+numbers (accepted d s) = (refl, refl)
+
+module _ (t : List ℕ) (r : Reading) (e : r ≡ readingOf (readSheet t)) where
+  pub number-is : r .number ≡ numberIn (readSheet t)
+  number-is = ap (λ (x : Reading). x .number) e ∙ numbers (readSheet t) .0
+
+  pub line-is : r .line ≡ lineIn (readSheet t)
+  line-is = ap (λ (x : Reading). x .line) e ∙ numbers (readSheet t) .1
+
+  -- by whether the text is refused
+  by-outcome : (P : Outcome → Type 0) → ((k n : ℕ) → readSheet t ≡ refused k n → P (refused k n))
+      → ((d : ℕ) (s : Sheet) → readSheet t ≡ accepted d s → Good d s → P (accepted d s)) → P (readSheet t)
+  by-outcome P f g = go (readSheet t) refl
+    where
+      go : (o : Outcome) → readSheet t ≡ o → P o
+      go (refused k n) q = f k n q
+      go (accepted d s) q = g d s q (good t d s q)
+
+  pub line-small : r .line ≤ 16385
+  line-small =
+      rw line-is
+      (by-outcome (λ (o : Outcome). lineIn o ≤ 16385) (λ k n q. refused-within t k n q .1) (λ d s q h. omega arith))
+
+  -- the counts are within the tables
+  pub counts : (r .grammar .count ≤ 64) × (r .playing .count ≤ 512)
+  unfolding readingOf grammarTable playingTable
+  counts =
+      rw e (by-outcome (λ (o : Outcome). (readingOf o .grammar .count ≤ 64) × (readingOf o .playing .count ≤ 512))
+      (λ k n q. (omega arith, omega arith))
+      (λ d s q h. (h .rules .most, h .onsets .most)))
+
+  -- a number other than 0 is a refusal's
+  pub none-refused : (r .number ≡ 0 → ⊥) → (0 ≡ workOf (readSheet t)) × (0 ≡ treeOf (readSheet t))
+  none-refused f =
+      by-outcome (λ (o : Outcome). (numberIn o ≡ 0 → ⊥) → (0 ≡ workOf o) × (0 ≡ treeOf o))
+      (λ k n q h. (refl, refl)) (λ d s q good h. absurd (h refl)) (λ z. f (number-is ∙ z))
+
+  -- number 0 is that of an accepted text
+  module _ (z : r .number ≡ 0) where
+    accepted-by : (P : Outcome → Type 0) → ((d : ℕ) (s : Sheet) → Good d s → r ≡ readingOf (accepted d s) → P (accepted d s)) → P (readSheet t)
+    accepted-by P g =
+        by-outcome P (λ k n q. absurd (let m = refused-within t k n q .0 in omega (arith, sym (ap numberIn q) ∙ sym number-is ∙ z)))
+        (λ d s q h. g d s h (e ∙ ap readingOf q))
+
+    pub work-is : (n : ℕ)
+        → ((d : ℕ) (s : Sheet) → Good d s → r .grammar ≡ grammarTable (s .grammar) → r .playing ≡ playingTable (s .playing) → n ≡ workCells s)
+        → n ≡ workOf (readSheet t)
+    unfolding readingOf
+    work-is n f =
+        accepted-by (λ (o : Outcome). n ≡ workOf o)
+        (λ d s h q. f d s h (ap (λ (x : Reading). x .grammar) q) (ap (λ (x : Reading). x .playing) q))
+
+    pub tree-is : (n : ℕ) → ((s : Sheet) → r .playing ≡ playingTable (s .playing) → n ≡ treeBytes s) → n ≡ treeOf (readSheet t)
+    unfolding readingOf
+    tree-is n f = accepted-by (λ (o : Outcome). n ≡ treeOf o) (λ d s h q. f s (ap (λ (x : Reading). x .playing) q))
+
+  -- a place of the units
+  pub unit-is : (i : ℕ) → i < 512 → getD (r .playing .units) i (units 0) .0 ≡ unitAt (readSheet t) i
+  unfolding readingOf playingTable
+  unit-is i h =
+      rw e (by-outcome (λ (o : Outcome). getD (readingOf o .playing .units) i (units 0) .0 ≡ unitAt o i)
+      (λ k n q. ap (λ (u : Units). u .0) (getD-pad 512 (units 0) [] i h))
+      (λ d s q good. ap (λ (u : Units). u .0) (getD-pad 512 (units 0) (map unitsOf (s .playing .onsets)) i h ∙ List·getD-map unitsOf (s .playing .onsets) i noOnset)))
+
+  -- past them there is no onset
+  pub unit-none : (i : ℕ) → 512 ≤ i → 0 ≡ unitAt (readSheet t) i
+  unit-none i h =
+      by-outcome (λ (o : Outcome). 0 ≡ unitAt o i) (λ k n q. refl)
+      (λ d s q good. sym (ap (λ (o : Onset). o .unit) (List·getD-eq-default (s .playing .onsets) noOnset {n = i} (le-trans (good .onsets .most) h))))

@@ -1,0 +1,21 @@
+-- `rhythm_tree_bytes` meets its contract, for a refused text and for an accepted one. Assumes nothing.
+use borrow.Author.Needs.{needs}
+use mathlib.Core.Path.{_≡_}
+use Rattle.cabi.proofs.Readings.{counts, none-refused, tree-is}
+use Rattle.cabi.proofs.rhythm_tree_bytes.Statement.{statement}
+use Rattle.cabi.proofs.rhythm_tree_bytes.Tie as tie
+
+read-requires : tie.Need-read-requires
+read-requires c κs = search needs
+
+returns : tie.Need-returns
+returns c = none-refused (c .before .before .before .args .text .now) (c .before .read .result) (c .before .read .ensures) (c .if1 .taken) .1
+
+tree-bytes-requires : tie.Need-tree-bytes-requires
+tree-bytes-requires c κs = counts (c .before .before .before .before .args .text .now) (c .before .before .read .result) (c .before .before .read .ensures) .1
+
+returns-2 : tie.Need-returns-2
+returns-2 c = tree-is (c .before .before .before .before .before .args .text .now) (c .before .before .before .read .result) (c .before .before .before .read .ensures) (c .before .before .if1 .left) _ (c .tree-bytes .ensures)
+
+pub rhythm-tree-bytes-spec : {M : Type 1} → statement M
+rhythm-tree-bytes-spec = tie.close (tie.spec read-requires returns tree-bytes-requires returns-2)

@@ -1,0 +1,56 @@
+// The entries for C and Rust. A text is a pointer to its bytes and their number. Each entry takes every text and checks it itself.
+ghost use mathlib.Core.Path.{_≡_};
+ghost use Rattle.sheet.specs.Reading.{readSheet};
+ghost use Rattle.cabi.specs.Entries.{checkOf, workOf, treeOf, unitAt};
+
+// The number of a text's refusal times 65,536, plus its line; 0: the text is accepted.
+#[no_mangle]
+pub extern "C" fn rhythm_check(text: &[u8]) -> u32
+    ensures { λ r. ⌜ r ≡ checkOf (readSheet (now (text .entry))) ⌝ }
+{
+    let r = reading::read(text);
+    (r.number as u32) * 65536 + (r.line as u32)
+}
+
+// The required length of finding's work slice, in cells; 0: the text is refused.
+#[no_mangle]
+pub extern "C" fn rhythm_work_cells(text: &[u8]) -> u64
+    ensures { λ r. ⌜ r ≡ workOf (readSheet (now (text .entry))) ⌝ }
+{
+    let r = reading::read(text);
+    let number = r.number;
+    if number != 0 {
+        return 0;
+    }
+    let grammar = r.grammar;
+    let playing = r.playing;
+    sizes::work_cells(grammar, playing) as u64
+}
+
+// The required length of finding's tree slice, in bytes; 0: the text is refused.
+#[no_mangle]
+pub extern "C" fn rhythm_tree_bytes(text: &[u8]) -> u64
+    ensures { λ r. ⌜ r ≡ treeOf (readSheet (now (text .entry))) ⌝ }
+{
+    let r = reading::read(text);
+    let number = r.number;
+    if number != 0 {
+        return 0;
+    }
+    let playing = r.playing;
+    sizes::tree_bytes(playing) as u64
+}
+
+// The unit of onset i, from 0; 0 past the last, and where the text is refused.
+#[no_mangle]
+pub extern "C" fn rhythm_onset_unit(text: &[u8], i: usize) -> u32
+    ensures { λ r. ⌜ r ≡ unitAt (readSheet (now (text .entry))) i ⌝ }
+{
+    let r = reading::read(text);
+    if 512 <= i {
+        return 0;
+    }
+    let playing = r.playing;
+    let unit = playing.units[i];
+    unit.0
+}

@@ -1,0 +1,50 @@
+-- `playing_refusal` meets its contract: each return has passed the demands before it. Assumes nothing.
+use borrow.Author.Needs.{needs}
+use mathlib.Core.Path.{sym}
+use Rattle.sheet.specs.Reading.{playingRefusal}
+use Rattle.sheet.specs.Demands.{demands}
+use Rattle.grammar.proofs.playing_refusal.Statement.{statement}
+use Rattle.grammar.proofs.playing_refusal.Tie as tie
+
+returns : tie.Need-returns
+unfolding playingRefusal
+returns c = search demands depth 10
+
+element-copy-out-bars : tie.Need-element-copy-out-bars
+element-copy-out-bars c = search needs
+
+returns-2 : tie.Need-returns-2
+unfolding playingRefusal
+returns-2 c = search demands depth 10
+
+returns-3 : tie.Need-returns-3
+unfolding playingRefusal
+returns-3 c = search demands depth 10
+
+four-at-requires : tie.Need-four-at-requires
+four-at-requires c κs = search needs
+
+returns-4 : tie.Need-returns-4
+unfolding playingRefusal
+returns-4 c = rw (sym (c .before .four-at .ensures)) (search demands depth 10)
+
+returns-5 : tie.Need-returns-5
+unfolding playingRefusal
+returns-5 c = rw (sym (c .before .before .four-at .ensures)) (search demands depth 10)
+
+returns-6 : tie.Need-returns-6
+unfolding playingRefusal
+returns-6 c = rw (sym (c .before .before .four-at .ensures)) (search demands depth 10)
+
+pub playing-refusal-spec : {M : Type 1} → statement M
+playing-refusal-spec =
+    tie.close
+    (tie.spec
+    returns
+    element-copy-out-bars
+    returns-2
+    returns-3
+    four-at-requires
+    returns-4
+    returns-5
+    returns-6)

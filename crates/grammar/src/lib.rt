@@ -1,0 +1,294 @@
+// The grammar of a sheet: the `47` line, and the lines up to the `45` line, which ends the rules.
+ghost use mathlib.Core.Path.{_≡_};
+ghost use mathlib.Core.List.{List, [], _∷_, _++_};
+ghost use Prim.Native.Nat.{ℕ, _+_, _*_, _≤_, _<_};
+ghost use lib.ListN.{length};
+ghost use Rattle.sheet.specs.Sheet.{Grammar};
+ghost use Rattle.sheet.specs.Reading.{headRefusal, headOf, divisionRefusal, leafRefusal, playingRefusal, rulesRefusal, allBelow, bytesFrom};
+ghost use Rattle.sheet.specs.Held.{grammarTable, noGrammar, childCells};
+ghost use Rattle.sheet.specs.Good.{GoodRules};
+ghost use Rattle.grammar.specs.Steps.{cellOf, arityOf, RulesRead};
+use sheet::GrammarTable;
+use sheet::Line;
+use sheet::Micros;
+use sheet::Rule;
+use sheet::RuleCell;
+use sheet::four_at;
+use sheet::line_at;
+use sheet::narrow;
+use sheet::two_at;
+
+// What reading the rules gives: a refusal with its line; or, with number 0, the grammar, the `45` line's bars and duration, and the
+// number and the place of the line after it.
+pub struct Rules {
+    pub number: u8,
+    pub line: usize,
+    pub next: usize,
+    pub bars: u8,
+    pub duration: Micros,
+    pub grammar: GrammarTable,
+}
+
+// The grammar of zeros.
+pub fn no_grammar() -> GrammarTable
+    ensures { λ r. ⌜ r ≡ grammarTable noGrammar ⌝ }
+{
+    let cell = RuleCell {
+        rule: Rule::Division {
+            head: 0,
+            weight: 0,
+            arity: 0,
+        },
+    };
+    let rules = [cell; 64];
+    let children = [0u8; 512];
+    GrammarTable {
+        nonterminals: 0,
+        start: 0,
+        multiplier: 0,
+        count: 0,
+        rules,
+        children,
+    }
+}
+
+// The refusal of a `47` line; 0: none.
+pub fn head_refusal(l: Line) -> u8
+    ensures { λ r. ⌜ r ≡ headRefusal l ⌝ }
+{
+    if l.count != 5 {
+        return 4;
+    }
+    let nonterminals = l.bytes[1];
+    let start = l.bytes[2];
+    if nonterminals < 1 {
+        return 5;
+    }
+    if 16 < nonterminals {
+        return 5;
+    }
+    if nonterminals <= start {
+        return 5;
+    }
+    0
+}
+
+// The grammar that a `47` line begins.
+pub fn head_of(l: Line) -> GrammarTable
+    ensures { λ r. ⌜ r ≡ grammarTable (headOf l) ⌝ }
+{
+    let mut g = no_grammar();
+    g.nonterminals = l.bytes[1];
+    g.start = l.bytes[2];
+    g.multiplier = narrow(two_at(l, 3));
+    g
+}
+
+// Whether k nonterminals of a line, from byte 5 on, are all below q.
+fn all_below(q: u8, k: usize, l: Line) -> bool
+    requires { ⌜ k ≤ 8 ⌝ }
+    ensures { λ r. ⌜ r ≡ allBelow q (bytesFrom k 5 l) ⌝ }
+{
+    let mut j: usize = 0;
+    while j < k {
+        let x = l.bytes[j + 5];
+        j += 1;
+        if q <= x {
+            return false;
+        }
+    }
+    true
+}
+
+// The refusal of a `44` line in a grammar of q nonterminals, after `count` rules; 0: none.
+fn division_refusal(q: u8, count: usize, l: Line) -> u8
+    ensures { λ r. ⌜ r ≡ divisionRefusal q count l ⌝ }
+{
+    if l.count < 5 {
+        return 4;
+    }
+    let head = l.bytes[1];
+    let k = l.bytes[4];
+    if k < 2 {
+        return 5;
+    }
+    if 8 < k {
+        return 5;
+    }
+    if l.count != 5 + (k as usize) {
+        return 4;
+    }
+    if q <= head {
+        return 5;
+    }
+    if all_below(q, k as usize, l) {
+        if 64 <= count {
+            return 8;
+        }
+        return 0;
+    }
+    5
+}
+
+// The refusal of a `4C` line in a grammar of q nonterminals, after `count` rules; 0: none.
+fn leaf_refusal(q: u8, count: usize, l: Line) -> u8
+    ensures { λ r. ⌜ r ≡ leafRefusal q count l ⌝ }
+{
+    if l.count != 5 {
+        return 4;
+    }
+    let head = l.bytes[1];
+    let n = l.bytes[4];
+    if q <= head {
+        return 5;
+    }
+    if 3 < n {
+        return 5;
+    }
+    if 64 <= count {
+        return 8;
+    }
+    0
+}
+
+// The refusal of a `45` line; 0: none.
+fn playing_refusal(l: Line) -> u8
+    ensures { λ r. ⌜ r ≡ playingRefusal l ⌝ }
+{
+    if l.count != 6 {
+        return 4;
+    }
+    let bars = l.bytes[1];
+    if bars < 1 {
+        return 5;
+    }
+    if 64 < bars {
+        return 5;
+    }
+    let d = four_at(l, 2);
+    if d < 1000 {
+        return 5;
+    }
+    if 60000000 < d {
+        return 5;
+    }
+    0
+}
+
+// The refusal of a line after the `47` line and `count` rules; 0: none.
+fn rules_refusal(q: u8, count: usize, l: Line) -> u8
+    ensures { λ r. ⌜ r ≡ rulesRefusal q count l ⌝ }
+{
+    let kind = l.bytes[0];
+    if kind == 0x44 {
+        return division_refusal(q, count, l);
+    }
+    if kind == 0x4C {
+        return leaf_refusal(q, count, l);
+    }
+    if kind != 0x45 {
+        return 3;
+    }
+    if count < 1 {
+        return 3;
+    }
+    playing_refusal(l)
+}
+
+// The rule of a `44` or `4C` line.
+fn rule_of(l: Line) -> RuleCell
+    ensures { λ r. ⌜ r ≡ cellOf l ⌝ }
+{
+    let head = l.bytes[1];
+    let weight = narrow(two_at(l, 2));
+    let last = l.bytes[4];
+    if l.bytes[0] == 0x44 {
+        return RuleCell {
+            rule: Rule::Division {
+                head,
+                weight,
+                arity: last,
+            },
+        };
+    }
+    RuleCell {
+        rule: Rule::Leaf {
+            head,
+            weight,
+            n: last,
+        },
+    }
+}
+
+// How many parts the rule of a line has.
+fn arity_of(l: Line) -> usize
+    ensures { λ r. ⌜ r ≡ arityOf l ⌝ }
+{
+    if l.bytes[0] == 0x44 {
+        return l.bytes[4] as usize;
+    }
+    0
+}
+
+// Puts k nonterminals of a line, from byte 5 on, at the eight places of rule n.
+fn put_parts(children: &mut [u8; 512], n: usize, k: usize, l: Line)
+    requires { ⌜ (n < 64) × (k ≤ 8) ⌝ }
+    ensures { λ _. ⌜ ((rs : List (List ℕ)) → length rs ≡ n → now (children .entry) ≡ childCells rs → now (children .exit) ≡ childCells (rs ++ (bytesFrom k 5 l ∷ []))) ⌝ }
+{
+    let mut j: usize = 0;
+    while j < k {
+        let x = l.bytes[j + 5];
+        children[n * 8 + j] = x;
+        j += 1;
+    }
+}
+
+// The lines after the `47` line, whose grammar is g, from place `at` on, where line `line` starts: up to the `45` line.
+pub fn read_rules(text: &[u8], at: usize, line: usize, g: GrammarTable) -> Rules
+    requires { ⌜ (at ≤ length (now text)) × (line ≤ at + 1) ⌝ }
+    ensures { λ r. ⌜ ((h : Grammar) → GoodRules h → g ≡ grammarTable h → RulesRead (now (text .entry)) at line h r) ⌝ }
+{
+    let mut table = g;
+    let mut at = at;
+    let mut line = line;
+    while at < text.len() {
+        let taken = line_at(text, at);
+        let l = taken.line;
+        at = taken.next;
+        let n = table.count;
+        let number = rules_refusal(table.nonterminals, n, l);
+        if number != 0 {
+            return Rules {
+                number,
+                line,
+                next: at,
+                bars: 0,
+                duration: Micros(0),
+                grammar: table,
+            };
+        }
+        line += 1;
+        if l.bytes[0] == 0x45 {
+            return Rules {
+                number: 0,
+                line,
+                next: at,
+                bars: l.bytes[1],
+                duration: Micros(four_at(l, 2)),
+                grammar: table,
+            };
+        }
+        let cell = rule_of(l);
+        table.rules[n] = cell;
+        put_parts(&mut table.children, n, arity_of(l), l);
+        table.count = n + 1;
+    }
+    Rules {
+        number: 3,
+        line,
+        next: at,
+        bars: 0,
+        duration: Micros(0),
+        grammar: table,
+    }
+}

@@ -1,0 +1,3 @@
+pub mod BadSteps
+pub mod LineSteps
+pub mod WriteSteps

@@ -1,0 +1,3 @@
+pub mod OnsetSteps
+pub mod Tables
+pub mod OnsetLoop

@@ -1,0 +1,80 @@
+// Reading a sheet: a text is refused, by document 01's numbers 1 to 8, or means a grammar and a playing in units.
+ghost use mathlib.Core.Path.{_≡_};
+ghost use Prim.Native.Nat.{_<_};
+ghost use lib.ListN.{length};
+ghost use Rattle.hextext.specs.Text.{lines};
+ghost use Rattle.sheet.specs.Reading.{readSheet, readLines, refused, nothing};
+ghost use Rattle.sheet.specs.Held.{readingOf};
+use grammar::head_of;
+use grammar::head_refusal;
+use grammar::no_grammar;
+use grammar::read_rules;
+use playing::no_onsets;
+use playing::read_onsets;
+use sheet::Micros;
+use sheet::Reading;
+use sheet::line_at;
+
+fn refused_at(number: u8, line: usize) -> Reading
+    ensures { λ r. ⌜ r ≡ readingOf (refused number line) ⌝ }
+{
+    let grammar = no_grammar();
+    let playing = no_onsets(0);
+    Reading {
+        number,
+        line,
+        duration: Micros(0),
+        grammar,
+        playing,
+    }
+}
+
+// The lines of a text with no bad line, one after another.
+fn read_lines(text: &[u8]) -> Reading
+    requires { ⌜ 0 < length (now text) ⌝ }
+    ensures { λ r. ⌜ r ≡ readingOf (readLines nothing 1 (lines (now (text .entry)))) ⌝ }
+{
+    let first = line_at(text, 0);
+    let head = first.line;
+    if head.bytes[0] != 0x47 {
+        return refused_at(3, 1);
+    }
+    let number = head_refusal(head);
+    if number != 0 {
+        return refused_at(number, 1);
+    }
+    let rules = read_rules(text, first.next, 2, head_of(head));
+    let stop = rules.number;
+    if stop != 0 {
+        return refused_at(stop, rules.line);
+    }
+    let duration = rules.duration;
+    let onsets = read_onsets(text, rules.next, rules.line, rules.bars, duration);
+    let last = onsets.number;
+    if last != 0 {
+        return refused_at(last, onsets.line);
+    }
+    let grammar = rules.grammar;
+    let playing = onsets.playing;
+    Reading {
+        number: 0,
+        line: 0,
+        duration,
+        grammar,
+        playing,
+    }
+}
+
+// The meaning of a text as a sheet, or its refusal.
+pub fn read(text: &[u8]) -> Reading
+    ensures { λ r. ⌜ r ≡ readingOf (readSheet (now (text .entry))) ⌝ }
+{
+    if 16384 < text.len() {
+        return refused_at(1, 0);
+    }
+    let bad = hextext::bad_line(text);
+    if bad != 0 {
+        return refused_at(2, bad);
+    }
+    read_lines(text)
+}

@@ -1,0 +1,161 @@
+// Reads texts from standard input and prints the outcome of reading each as a sheet. A text starts behind a line that begins with # and
+// names it, and ends before the next #.
+ghost use mathlib.Core.Path.{_≡_};
+ghost use Prim.Native.Nat.{_+_, _≤_, min};
+ghost use lib.ListN.{length};
+use sheet::GrammarTable;
+use sheet::PlayingTable;
+use sheet::Reading;
+use sheet::Rule;
+
+// Writes a label and three numbers.
+fn print(label: &[u8], a: u64, b: u64, c: u64) {
+    io::write_all(1, label);
+    io::write_all(1, b" ");
+    io::print_decimal(1, a);
+    io::write_all(1, b" ");
+    io::print_decimal(1, b);
+    io::write_all(1, b" ");
+    io::print_decimal(1, c);
+}
+
+// The first place from `at` on that holds b, or the end.
+fn place_of(s: &[u8], at: usize, b: u8) -> usize
+    requires { ⌜ at ≤ length (now s) ⌝ }
+    ensures { λ r. ⌜ (at ≤ r) × (r ≤ length (now (s .entry))) ⌝ }
+{
+    let mut i = at;
+    while i < s.len() {
+        if s[i] == b {
+            return i;
+        }
+        i += 1;
+    }
+    i
+}
+
+// The place behind place i, or the end.
+fn behind(s: &[u8], i: usize) -> usize
+    requires { ⌜ i ≤ length (now s) ⌝ }
+    ensures { λ r. ⌜ r ≡ min (i + 1) (length (now (s .entry))) ⌝ }
+{
+    if i < s.len() {
+        return i + 1;
+    }
+    i
+}
+
+fn wide(b: u8) -> u64 {
+    b as u64
+}
+
+fn print_rule(r: Rule) {
+    match r {
+        Rule::Division {
+            head,
+            weight,
+            arity,
+        } => {
+            print(
+                b"\n  division: head, weight, parts",
+                head as u64,
+                weight as u64,
+                arity as u64,
+            );
+        }
+        Rule::Leaf { head, weight, n } => {
+            print(
+                b"\n  leaf: head, weight, n",
+                head as u64,
+                weight as u64,
+                n as u64,
+            );
+        }
+    }
+}
+
+// The first eight rules, each with the first three of its places for parts.
+fn print_rules(g: GrammarTable) {
+    let count = g.count;
+    let mut i: usize = 0;
+    while i < 8 {
+        if i < count {
+            let cell = g.rules[i];
+            let rule = cell.rule;
+            print_rule(rule);
+            let at = i * 8;
+            print(
+                b"; first places",
+                wide(g.children[at]),
+                wide(g.children[at + 1]),
+                wide(g.children[at + 2]),
+            );
+        }
+        i += 1;
+    }
+}
+
+// The first four onsets and the last.
+fn print_onsets(p: PlayingTable) {
+    let count = p.count;
+    let mut i: usize = 0;
+    while i < 512 {
+        let shown = i < 4 || i + 1 == count;
+        if i < count && shown {
+            let unit = p.units[i];
+            print(
+                b"\n  onset: place, unit, pitch",
+                i as u64,
+                unit.0 as u64,
+                wide(p.pitches[i]),
+            );
+        }
+        i += 1;
+    }
+}
+
+fn print_outcome(r: Reading) {
+    let grammar = r.grammar;
+    let playing = r.playing;
+    let duration = r.duration;
+    print(
+        b"\n  number, line, duration",
+        r.number as u64,
+        r.line as u64,
+        duration.0 as u64,
+    );
+    print(
+        b"; nonterminals, start, multiplier",
+        grammar.nonterminals as u64,
+        grammar.start as u64,
+        grammar.multiplier as u64,
+    );
+    print(
+        b"; rules, bars, onsets",
+        grammar.count as u64,
+        playing.bars as u64,
+        playing.count as u64,
+    );
+    print_rules(grammar);
+    print_onsets(playing);
+    io::write_all(1, b"\n");
+}
+
+// Each text of the input.
+fn run(s: &[u8]) {
+    let mut at = place_of(s, 0, b'#');
+    while at < s.len() {
+        let end = place_of(s, at, b'\n');
+        let start = behind(s, end);
+        let stop = place_of(s, start, b'#');
+        io::write_all(1, &s[at..end]);
+        print_outcome(reading::read(&s[start..stop]));
+        at = stop;
+    }
+}
+
+fn main() {
+    let mut input = [0u8; 131072];
+    let n = io::read_full(0, &mut input);
+    run(&input[..n]);
+}

@@ -1,0 +1,57 @@
+-- What layers above reading may rely on: `Good`, which `GoodLaws.good` proves of every accepted text.
+use Prim.Native.Nat.{ℕ, _*_, _≤_, _<_}
+use mathlib.Core.List.{List, [], _∷_}
+use lib.ListN.{length}
+use Rattle.slices.specs.Every.{Every}
+use Rattle.sheet.specs.Sheet.{Rule, division, leaf, Onset, Grammar, Playing, Sheet, barUnits, inBar}
+
+-- units never fall: each is at least the one before, the first at least `least`
+abbrev pub Rising : (least : ℕ) → List Onset → Type 0
+Rising least [] = Unit {0}
+Rising least (o ∷ os) = (least ≤ o .unit) × Rising (o .unit) os
+
+-- a division of q nonterminals: its head and its parts are among them, and it has 2 to 8 parts
+pub record GoodDivision (q h w : ℕ) (ks : List ℕ) : Type 0 where
+  pub head : h < q
+  pub weight : w ≤ 65535
+  pub two : 2 ≤ length ks
+  pub eight : length ks ≤ 8
+  pub parts : Every (λ (x : ℕ). x < q) ks
+
+-- a leaf: its head is a nonterminal, and n is 0 to 3
+pub record GoodLeaf (q h w n : ℕ) : Type 0 where
+  pub head : h < q
+  pub weight : w ≤ 65535
+  pub three : n ≤ 3
+
+abbrev pub GoodRule : ℕ → Rule → Type 0
+GoodRule q (division h w ks) = GoodDivision q h w ks
+GoodRule q (leaf h w n) = GoodLeaf q h w n
+
+-- a grammar while its rules are read
+pub record GoodRules (g : Grammar) : Type 0 where
+  pub one : 1 ≤ g .nonterminals
+  pub sixteen : g .nonterminals ≤ 16
+  pub start : g .start < g .nonterminals
+  pub multiplier : g .multiplier ≤ 65535
+  pub most : length (g .rules) ≤ 64
+  pub rules : Every (GoodRule (g .nonterminals)) (g .rules)
+
+-- a playing while its onsets are read. That every unit is before the end is said of the sheet and not of the conversion
+pub record GoodOnsets (p : Playing) : Type 0 where
+  pub one : 1 ≤ p .bars
+  pub sixty-four : p .bars ≤ 64
+  pub most : length (p .onsets) ≤ 512
+  pub below : Every (λ (o : Onset). o .unit < p .bars * barUnits) (p .onsets)
+  pub pitches : Every (λ (o : Onset). o .pitch ≤ 127) (p .onsets)
+  pub rising : Rising 0 (p .onsets)
+  pub few : (b : ℕ) → inBar b (p .onsets) ≤ 32
+
+-- an accepted sheet, and one bar's duration in it
+pub record Good (duration : ℕ) (s : Sheet) : Type 0 where
+  pub shortest : 1000 ≤ duration
+  pub longest : duration ≤ 60_000_000
+  pub rules : GoodRules (s .grammar)
+  pub some-rule : 1 ≤ length (s .grammar .rules)
+  pub onsets : GoodOnsets (s .playing)
+  pub some-onset : 1 ≤ length (s .playing .onsets)

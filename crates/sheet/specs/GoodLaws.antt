@@ -1,0 +1,227 @@
+-- Every accepted text means a good sheet (`good`): what has been read is good at each step, and stays so with each line that is not refused.
+use Prim.Native.Nat.{ℕ, zero, suc, _+_, _*_, _<_, _≤_}
+use mathlib.Core.Path.{_≡_, refl, sym, ap, _∙_, subst}
+use mathlib.Core.Bool.{Bool, true, false, cond, _&&_, false≢true}
+use mathlib.Core.List.{List, [], _∷_, _++_}
+use native.Mathlib.Omega.{arith}
+use native.Mathlib.Nat.{le-trans}
+use native.Mathlib.Decide.{ℕ-discrete, decLe}
+use lib.ListN.{length, length-append}
+use lib.Dec.{eqb, leb, ltb}
+use borrow.Author.Tests.{eq-eqb, ne-eqb, eqb-true, ltb-true, lt-leb, le-leb}
+use Rattle.slices.specs.Every.{Every, every-more, every-at, every-weaken}
+use Rattle.hextext.specs.Text.{lines, badLine}
+use Rattle.hextext.specs.Laws.{lines-small}
+use Rattle.sheet.specs.declared.line.Line.{Line}
+use Rattle.sheet.specs.Sheet.{Rule, division, leaf, Onset, Grammar, Playing, Sheet, unitOf, barOf, inBar, barUnits}
+use Rattle.sheet.specs.Reading.{byte, two, four, allBelow, bytesFrom, lineOf, headRefusal, headOf, divisionRefusal, divisionOf, leafRefusal, leafOf, withRule, playingRefusal, playingOf, onsetRefusal, onsetOf, withOnset, Progress, nothing, inRules, inOnsets, rulesRefusal, refusal, after, Outcome, refused, accepted, demand, atEnd, readLines, readSheet}
+use Rattle.sheet.specs.Clock.{unit-lt, unit-mono}
+use Rattle.sheet.specs.Good.{Rising, GoodRule, GoodRules, GoodOnsets, Good}
+use Rattle.sheet.specs.SoFar.{GoodSoFar, GoodProgress}
+use Rattle.sheet.specs.Laws.{length-bytes, demand-zero, cond-zero, head-passed, division-passed, leaf-passed, playing-passed, onset-passed, read-on, read-stop, too-long, ill-formed, well-formed}
+
+-- the bytes of a line are below 256, and a number of two bytes is below 65,536
+abbrev pub Small : Line → Type 0
+Small l = (i : ℕ) → byte l i < 256
+
+two-small : (l : Line) (i : ℕ) → Small l → two l i ≤ 65535
+unfolding two
+two-small l i h = omega (arith, h i, h (i + 1))
+
+pub line-small : (b : List ℕ) → Every (λ (x : ℕ). x < 256) b → Small (lineOf b)
+unfolding lineOf
+line-small b h i = every-at (λ (x : ℕ). x < 256) b i 0 h (omega arith)
+
+-- the test that all are below q, as a property
+every-below : (q : ℕ) (xs : List ℕ) → allBelow q xs ≡ true → Every (λ (x : ℕ). x < q) xs
+unfolding allBelow
+every-below q [] e = tt
+every-below q (x ∷ xs) e = go (ltb x q) refl e (every-below q xs)
+  where
+    go : (t : Bool) → ltb x q ≡ t → (t && allBelow q xs) ≡ true → (allBelow q xs ≡ true → Every (λ (y : ℕ). y < q) xs)
+        → (x < q) × Every (λ (y : ℕ). y < q) xs
+    go true h f rest = (ltb-true x q h, rest f)
+    go false h f rest = absurd (false≢true f)
+
+good-head : (l : Line) → Small l → headRefusal l ≡ 0 → GoodRules (headOf l)
+unfolding headOf
+good-head l h e =
+    let p = head-passed l e in
+    record {
+      one = p .one;
+      sixteen = p .sixteen;
+      start = p .start;
+      multiplier = two-small l 3 h;
+      most = omega arith;
+      rules = tt;
+    }
+
+good-with-rule : (g : Grammar) (r : Rule) → GoodRules g → GoodRule (g .nonterminals) r → length (g .rules) < 64 → GoodRules (withRule g r)
+unfolding withRule
+good-with-rule g r h k room =
+    record {
+      one = h .one;
+      sixteen = h .sixteen;
+      start = h .start;
+      multiplier = h .multiplier;
+      most = rw (length-append (g .rules) (r ∷ [])) (omega (arith, room));
+      rules = every-more (GoodRule (g .nonterminals)) (g .rules) r (h .rules) k;
+    }
+
+good-division : (q n : ℕ) (l : Line) → Small l → divisionRefusal q n l ≡ 0 → GoodRule q (divisionOf l)
+unfolding divisionOf
+good-division q n l h e =
+    let p = division-passed q n l e in
+    let k = length-bytes l (byte l 4) 5 in
+    record {
+      head = p .head;
+      weight = two-small l 2 h;
+      two = rw k (p .least);
+      eight = rw k (p .most);
+      parts = every-below q (bytesFrom (byte l 4) 5 l) (p .parts);
+    }
+
+good-leaf : (q n : ℕ) (l : Line) → Small l → leafRefusal q n l ≡ 0 → GoodRule q (leafOf l)
+unfolding leafOf
+good-leaf q n l h e = let p = leaf-passed q n l e in record { head = p .head; weight = two-small l 2 h; three = p .three }
+
+good-start : (l : Line) → playingRefusal l ≡ 0 → GoodSoFar (four l 2) (playingOf l) 0
+unfolding playingOf inBar
+good-start l e =
+    let p = playing-passed l e in
+    record {
+      shortest = p .shortest;
+      longest = p .longest;
+      onsets =
+          record { one = p .one; sixty-four = p .sixty-four; most = omega arith; below = tt; pitches = tt; rising = tt; few = λ b. omega arith };
+      before = tt;
+    }
+
+-- one onset more in the count of a bar
+pub in-bar-more : (b : ℕ) (os : List Onset) (o : Onset) → inBar b (os ++ (o ∷ [])) ≡ inBar b os + cond (eqb (barOf (o .unit)) b) 1 0
+unfolding inBar
+in-bar-more b [] o = omega arith
+in-bar-more b (x ∷ os) o = omega (arith, in-bar-more b os o)
+
+rising-more : (m : ℕ) (os : List Onset) (o : Onset) → Rising m os → m ≤ o .unit → Every (λ (x : Onset). x .unit ≤ o .unit) os → Rising m (os ++ (o ∷ []))
+rising-more m [] o r h e = (h, tt)
+rising-more m (x ∷ os) o r h e = (r .0, rising-more (x .unit) os o (r .1) (e .0) (e .1))
+
+module _ (d : ℕ) (p : Playing) (last : ℕ) (l : Line) (h : GoodSoFar d p last) where
+  abbrev u : ℕ
+  u = unitOf d (four l 1)
+
+  few-more : (b : ℕ) → Dec (barOf u ≡ b) → inBar (barOf u) (p .onsets) < 32 → inBar b (p .onsets ++ (onsetOf d l ∷ [])) ≤ 32
+  unfolding onsetOf
+  few-more b (yes q) k =
+      rw (in-bar-more b (p .onsets) (onsetOf d l), eq-eqb _ _ q) (omega (arith, ap (λ (x : ℕ). inBar x (p .onsets)) q))
+  few-more b (no q) k = rw (in-bar-more b (p .onsets) (onsetOf d l), ne-eqb _ _ q) (omega (arith, h .onsets .few b))
+
+  pub good-onset : onsetRefusal (p .bars) d last (length (p .onsets)) (inBar (barOf u) (p .onsets)) l ≡ 0
+      → GoodSoFar d (withOnset p (onsetOf d l)) (four l 1)
+  unfolding onsetOf withOnset
+  good-onset e =
+      let k = onset-passed (p .bars) d last _ _ l e in
+      let o = onsetOf d l in
+      let up : unitOf d last ≤ u = unit-mono d (omega (arith, h .shortest)) (k .rises) in
+      let earlier : Every (λ (x : Onset). x .unit ≤ u) (p .onsets) =
+      every-weaken (λ (x : Onset). x .unit ≤ unitOf d last) (λ (x : Onset). x .unit ≤ u) (λ x m. le-trans m up) (p .onsets) (h .before) in
+      record {
+        shortest = h .shortest;
+        longest = h .longest;
+        onsets =
+            record {
+              one = h .onsets .one;
+              sixty-four = h .onsets .sixty-four;
+              most = rw (length-append (p .onsets) (o ∷ [])) (omega (arith, k .room));
+              below =
+                  every-more (λ (x : Onset). x .unit < p .bars * barUnits) (p .onsets) o (h .onsets .below)
+                  (unit-lt (p .bars) d (four l 1) (omega (arith, h .shortest)) (k .inside));
+              pitches = every-more (λ (x : Onset). x .pitch ≤ 127) (p .onsets) o (h .onsets .pitches) (k .pitch);
+              rising = rising-more 0 (p .onsets) o (h .onsets .rising) (omega arith) earlier;
+              few = λ b. few-more b (ℕ-discrete (barOf u) b) (k .few);
+            };
+        before = every-more (λ (x : Onset). x .unit ≤ u) (p .onsets) o earlier (omega arith);
+      }
+
+-- a line after the `47` line, by its kind
+module _ (g : Grammar) (l : Line) (h : Small l) (k : GoodRules g) where
+  abbrev q : ℕ
+  q = g .nonterminals
+
+  abbrev n : ℕ
+  n = length (g .rules)
+
+  good-rules-line : (a b c : Bool)
+      → cond a (divisionRefusal q n l) (cond b (leafRefusal q n l) (cond c (demand (ltb 0 n) 3 (playingRefusal l)) 3)) ≡ 0
+      → GoodProgress
+      (cond a (inRules (withRule g (divisionOf l))) (cond b (inRules (withRule g (leafOf l))) (inOnsets g (four l 2) (playingOf l) 0)))
+  good-rules-line true b c z = good-with-rule g (divisionOf l) k (good-division q n l h z) (division-passed q n l z .room)
+  good-rules-line false true c z = good-with-rule g (leafOf l) k (good-leaf q n l h z) (leaf-passed q n l z .room)
+  good-rules-line false false true z =
+      let y = demand-zero (ltb 0 n) 2 (playingRefusal l) z in
+      (k, ltb-true 0 n (y .0), good-start l (y .1))
+  good-rules-line false false false z = let f : ⊥ = omega arith in absurd f
+
+-- a line that is not refused keeps what has been read good
+pub good-after : (r : Progress) (l : Line) → Small l → GoodProgress r → refusal r l ≡ 0 → GoodProgress (after r l)
+unfolding refusal rulesRefusal after
+good-after nothing l h g e = good-head l h (cond-zero (eqb (byte l 0) 0x47) (headRefusal l) 2 e .1)
+good-after (inRules g) l h k e = good-rules-line g l h k (eqb (byte l 0) 0x44) (eqb (byte l 0) 0x4C) (eqb (byte l 0) 0x45) e
+good-after (inOnsets g d p last) l h k e =
+    (k .0, k .1, good-onset d p last l (k .2) (cond-zero (eqb (byte l 0) 0x4E) (onsetRefusal (p .bars) d last (length (p .onsets)) (inBar (barOf (unitOf d (four l 1))) (p .onsets)) l) 2 e .1))
+
+-- an outcome is not both
+isAccepted : Outcome → ℕ
+isAccepted (refused k n) = 0
+isAccepted (accepted d s) = 1
+
+not-both : (k n d : ℕ) (s : Sheet) → refused k n ≡ accepted d s → ⊥
+unfolding isAccepted
+not-both k n d s e = let z : _≡_ {A = ℕ} 0 1 = ap isAccepted e in omega arith
+
+-- the record of an accepted outcome
+abbrev Accepted : Outcome → Type 0
+Accepted (refused k n) = Unit {0}
+Accepted (accepted d s) = Good d s
+
+good-end : (r : Progress) (n : ℕ) → GoodProgress r → Accepted (atEnd r n)
+unfolding atEnd
+good-end nothing n h = tt
+good-end (inRules g) n h = tt
+good-end (inOnsets g d p last) n h = go (ltb 0 (length (p .onsets))) refl
+  where
+    go : (k : Bool) → ltb 0 (length (p .onsets)) ≡ k → Accepted (cond k (accepted d (record { grammar = g; playing = p })) (refused 3 n))
+    go false q = tt
+    go true q =
+        record {
+          shortest = h .2 .shortest;
+          longest = h .2 .longest;
+          rules = h .0;
+          some-rule = h .1;
+          onsets = h .2 .onsets;
+          some-onset = ltb-true 0 (length (p .onsets)) q;
+        }
+
+good-lines : (r : Progress) (n : ℕ) (ls : List (List ℕ)) → Every (Every (λ (x : ℕ). x < 256)) ls → GoodProgress r → Accepted (readLines r n ls)
+unfolding readLines
+good-lines r n [] s h = good-end r n h
+good-lines r n (b ∷ ls) s h = go (refusal r (lineOf b)) refl (λ g. good-lines (after r (lineOf b)) (n + 1) ls (s .1) g)
+  where
+    go : (k : ℕ) → refusal r (lineOf b) ≡ k
+        → (GoodProgress (after r (lineOf b)) → Accepted (readLines (after r (lineOf b)) (n + 1) ls)) → Accepted (readLines r n (b ∷ ls))
+    go zero q next =
+        subst Accepted (sym (read-on r n b ls q)) (next (good-after r (lineOf b) (line-small b (s .0)) h q))
+    go (suc k) q next = subst Accepted (sym (read-stop r n b ls (suc k) (sym q) (λ x. omega arith))) tt
+
+-- every accepted text means a good sheet
+pub good : (t : List ℕ) (d : ℕ) (s : Sheet) → readSheet t ≡ accepted d s → Good d s
+good t d s e = go (decLe (length t) 16384)
+  where
+    lines-go : (k : ℕ) → k ≡ badLine t → length t ≤ 16384 → Good d s
+    lines-go zero q h = subst Accepted (sym (well-formed t h (sym q)) ∙ e) (good-lines nothing 1 (lines t) (lines-small t) tt)
+    lines-go (suc k) q h = absurd (not-both 2 (suc k) d s (sym (ill-formed t h (suc k) q (λ x. omega arith)) ∙ e))
+
+    go : Dec (length t ≤ 16384) → Good d s
+    go (yes h) = lines-go (badLine t) refl h
+    go (no h) = absurd (not-both 1 0 d s (sym (too-long t (omega arith)) ∙ e))

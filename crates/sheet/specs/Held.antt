@@ -1,0 +1,95 @@
+-- A sheet as the code holds it: each list stands in an array from the front, with zeros in the places that are left. So a struct is a
+-- function of what it means, and a refusal's struct is one of zeros.
+use Prim.Native.Nat.{ℕ, _+_}
+use mathlib.Core.Path.{_≡_}
+use mathlib.Core.List.{List, [], _∷_, _++_, map}
+use lib.ListN.{length, drop}
+use Rattle.slices.specs.Pad.{pad}
+use Rattle.hextext.specs.Text.{lineBytes, lineSize}
+use Rattle.sheet.specs.declared.clock.Micros.{Micros}
+use Rattle.sheet.specs.declared.clock.Units.{Units}
+use Rattle.sheet.specs.declared.line.Line.{Line}
+use Rattle.sheet.specs.declared.line.Taken.{Taken}
+use Rattle.sheet.specs.declared.table.Rule.the-variants.{Division, Leaf}
+use Rattle.sheet.specs.declared.table.RuleCell.{RuleCell}
+use Rattle.sheet.specs.declared.table.GrammarTable.{GrammarTable}
+use Rattle.sheet.specs.declared.table.PlayingTable.{PlayingTable}
+use Rattle.sheet.specs.declared.table.Reading.{Reading}
+use Rattle.sheet.specs.Sheet.{Rule, division, leaf, Onset, Grammar, Playing, Sheet}
+use Rattle.sheet.specs.Reading.{Outcome, refused, accepted}
+
+abbrev pub micros : ℕ → Micros
+micros t = record { 0 = t }
+
+abbrev pub units : ℕ → Units
+units u = record { 0 = u }
+
+-- a line in the sheet's buffer of 16 bytes; no kind of line has more than 13
+unfoldable pub held : List ℕ → Line
+held l = record { count = length l; bytes = pad 16 0 l }
+
+-- what stands at `at` in a text: its next line, and the place behind it
+pub record LineTaken (text : List ℕ) (at : ℕ) (r : Taken) : Type 0 where
+  pub line : r .line ≡ held (lineBytes (drop at text))
+  pub next : r .next ≡ at + lineSize (drop at text)
+
+-- a rule without the nonterminals of its parts, and these
+abbrev pub ruleCell : Rule → RuleCell
+ruleCell (division h w ks) = record { rule = Division h w (length ks) }
+ruleCell (leaf h w n) = record { rule = Leaf h w n }
+
+abbrev pub partsOf : Rule → List ℕ
+partsOf (division h w ks) = ks
+partsOf (leaf h w n) = []
+
+-- eight places for the parts of each rule
+unfoldable pub flat : List (List ℕ) → List ℕ
+flat [] = []
+flat (ks ∷ rs) = pad 8 0 ks ++ flat rs
+
+unfoldable pub childCells : List (List ℕ) → List ℕ
+childCells rs = pad 512 0 (flat rs)
+
+-- the zero of a rule's place
+abbrev pub noRule : RuleCell
+noRule = record { rule = Division 0 0 0 }
+
+unfoldable pub grammarTable : Grammar → GrammarTable
+grammarTable g =
+    record {
+      nonterminals = g .nonterminals;
+      start = g .start;
+      multiplier = g .multiplier;
+      count = length (g .rules);
+      rules = pad 64 noRule (map ruleCell (g .rules));
+      children = childCells (map partsOf (g .rules));
+    }
+
+abbrev pub unitsOf : Onset → Units
+unitsOf o = units (o .unit)
+
+abbrev pub pitchOf : Onset → ℕ
+pitchOf o = o .pitch
+
+unfoldable pub playingTable : Playing → PlayingTable
+playingTable p =
+    record {
+      bars = p .bars;
+      count = length (p .onsets);
+      units = pad 512 (units 0) (map unitsOf (p .onsets));
+      pitches = pad 512 0 (map pitchOf (p .onsets));
+    }
+
+abbrev pub noGrammar : Grammar
+noGrammar = record { nonterminals = 0; start = 0; multiplier = 0; rules = [] }
+
+-- a playing of some bars and no onsets
+abbrev pub noPlaying : ℕ → Playing
+noPlaying bars = record { bars = bars; onsets = [] }
+
+-- what reading gives: a refusal with its number and its line, and zeros elsewhere; or number 0, line 0 and the sheet
+unfoldable pub readingOf : Outcome → Reading
+readingOf (refused k n) =
+    record { number = k; line = n; duration = micros 0; grammar = grammarTable noGrammar; playing = playingTable (noPlaying 0) }
+readingOf (accepted d s) =
+    record { number = 0; line = 0; duration = micros d; grammar = grammarTable (s .grammar); playing = playingTable (s .playing) }

@@ -1,0 +1,178 @@
+-- Laws of reading, which proofs cite instead of the definitions' text: what a refusal 0 says of a line, and the steps of `readLines`.
+use Prim.Native.Nat.{ℕ, zero, suc, _+_, _*_, _<_, _≤_}
+use mathlib.Core.Path.{_≡_, refl, sym, ap, _∙_}
+use mathlib.Core.Bool.{Bool, true, false, cond}
+use mathlib.Core.List.{List, [], _∷_}
+use native.Mathlib.Omega.{arith}
+use lib.ListN.{length}
+use lib.Dec.{eqb, leb, ltb}
+use borrow.Author.Tests.{le-leb, lt-leb, le-ltb, lt-ltb, leb-true, ltb-true, eqb-true}
+use Rattle.hextext.specs.Text.{badLine, lines}
+use Rattle.sheet.specs.declared.line.Line.{Line}
+use Rattle.sheet.specs.Sheet.{Grammar, Playing}
+use Rattle.sheet.specs.Reading.{demand, byte, two, four, allBelow, bytesFrom, lineOf, headRefusal, divisionRefusal, leafRefusal, playingRefusal, onsetRefusal, Progress, nothing, inRules, inOnsets, refusal, after, Outcome, refused, accepted, atEnd, readLines, readFormed, readSheet}
+
+-- a demand that gives 0 is met, and what comes after it gives 0
+pub demand-zero : (t : Bool) (r k : ℕ) → demand t (suc r) k ≡ 0 → (t ≡ true) × (k ≡ 0)
+demand-zero true r k e = (refl, e)
+demand-zero false r k e = let f : ⊥ = omega arith in absurd f
+
+pub cond-zero : (t : Bool) (k r : ℕ) → cond t k (suc r) ≡ 0 → (t ≡ true) × (k ≡ 0)
+cond-zero true k r e = (refl, e)
+cond-zero false k r e = let f : ⊥ = omega arith in absurd f
+
+-- k bytes of a line are k
+pub length-bytes : (l : Line) (k i : ℕ) → length (bytesFrom k i l) ≡ k
+unfolding bytesFrom
+length-bytes l zero i = refl
+length-bytes l (suc k) i = ap suc (length-bytes l k (i + 1))
+
+-- what a line that is not refused has been held to
+pub record HeadPassed (l : Line) : Type 0 where
+  pub one : 1 ≤ byte l 1
+  pub sixteen : byte l 1 ≤ 16
+  pub start : byte l 2 < byte l 1
+
+pub head-passed : (l : Line) → headRefusal l ≡ 0 → HeadPassed l
+unfolding headRefusal
+head-passed l e =
+    let e₁ = demand-zero (eqb (l .count) 5) 3 _ e .1 in
+    let e₂ = demand-zero (leb 1 (byte l 1)) 4 _ e₁ in
+    let e₃ = demand-zero (leb (byte l 1) 16) 4 _ (e₂ .1) in
+    let e₄ = demand-zero (ltb (byte l 2) (byte l 1)) 4 0 (e₃ .1) in
+    record { one = leb-true _ _ (e₂ .0); sixteen = leb-true _ _ (e₃ .0); start = ltb-true _ _ (e₄ .0) }
+
+pub record DivisionPassed (q before : ℕ) (l : Line) : Type 0 where
+  pub least : 2 ≤ byte l 4
+  pub most : byte l 4 ≤ 8
+  pub head : byte l 1 < q
+  pub parts : allBelow q (bytesFrom (byte l 4) 5 l) ≡ true
+  pub room : before < 64
+
+pub division-passed : (q before : ℕ) (l : Line) → divisionRefusal q before l ≡ 0 → DivisionPassed q before l
+unfolding divisionRefusal
+division-passed q n l e =
+    let e₁ = demand-zero (leb 5 (l .count)) 3 _ e .1 in
+    let e₂ = demand-zero (leb 2 (byte l 4)) 4 _ e₁ in
+    let e₃ = demand-zero (leb (byte l 4) 8) 4 _ (e₂ .1) in
+    let e₄ = demand-zero (eqb (l .count) (5 + byte l 4)) 3 _ (e₃ .1) in
+    let e₅ = demand-zero (ltb (byte l 1) q) 4 _ (e₄ .1) in
+    let e₆ = demand-zero (allBelow q (bytesFrom (byte l 4) 5 l)) 4 _ (e₅ .1) in
+    let e₇ = demand-zero (ltb n 64) 7 0 (e₆ .1) in
+    record {
+      least = leb-true _ _ (e₂ .0);
+      most = leb-true _ _ (e₃ .0);
+      head = ltb-true _ _ (e₅ .0);
+      parts = e₆ .0;
+      room = ltb-true _ _ (e₇ .0);
+    }
+
+pub record LeafPassed (q before : ℕ) (l : Line) : Type 0 where
+  pub head : byte l 1 < q
+  pub three : byte l 4 ≤ 3
+  pub room : before < 64
+
+pub leaf-passed : (q before : ℕ) (l : Line) → leafRefusal q before l ≡ 0 → LeafPassed q before l
+unfolding leafRefusal
+leaf-passed q n l e =
+    let e₁ = demand-zero (eqb (l .count) 5) 3 _ e .1 in
+    let e₂ = demand-zero (ltb (byte l 1) q) 4 _ e₁ in
+    let e₃ = demand-zero (leb (byte l 4) 3) 4 _ (e₂ .1) in
+    let e₄ = demand-zero (ltb n 64) 7 0 (e₃ .1) in
+    record { head = ltb-true _ _ (e₂ .0); three = leb-true _ _ (e₃ .0); room = ltb-true _ _ (e₄ .0) }
+
+pub record PlayingPassed (l : Line) : Type 0 where
+  pub one : 1 ≤ byte l 1
+  pub sixty-four : byte l 1 ≤ 64
+  pub shortest : 1000 ≤ four l 2
+  pub longest : four l 2 ≤ 60_000_000
+
+pub playing-passed : (l : Line) → playingRefusal l ≡ 0 → PlayingPassed l
+unfolding playingRefusal
+playing-passed l e =
+    let e₁ = demand-zero (eqb (l .count) 6) 3 _ e .1 in
+    let e₂ = demand-zero (leb 1 (byte l 1)) 4 _ e₁ in
+    let e₃ = demand-zero (leb (byte l 1) 64) 4 _ (e₂ .1) in
+    let e₄ = demand-zero (leb 1000 (four l 2)) 4 _ (e₃ .1) in
+    let e₅ = demand-zero (leb (four l 2) 60_000_000) 4 0 (e₄ .1) in
+    record {
+      one = leb-true _ _ (e₂ .0);
+      sixty-four = leb-true _ _ (e₃ .0);
+      shortest = leb-true _ _ (e₄ .0);
+      longest = leb-true _ _ (e₅ .0);
+    }
+
+pub record OnsetPassed (bars duration last before here : ℕ) (l : Line) : Type 0 where
+  pub pitch : byte l 5 ≤ 127
+  pub rises : last ≤ four l 1
+  pub inside : four l 1 < bars * duration
+  pub room : before < 512
+  pub few : here < 32
+
+pub onset-passed : (bars duration last before here : ℕ) (l : Line) → onsetRefusal bars duration last before here l ≡ 0
+    → OnsetPassed bars duration last before here l
+unfolding onsetRefusal
+onset-passed B d last n h l e =
+    let e₁ = demand-zero (eqb (l .count) 7) 3 _ e .1 in
+    let e₂ = demand-zero (leb (byte l 5) 127) 4 _ e₁ in
+    let e₃ = demand-zero (leb 1 (byte l 6)) 4 _ (e₂ .1) .1 in
+    let e₄ = demand-zero (leb (byte l 6) 127) 4 _ e₃ .1 in
+    let e₅ = demand-zero (leb last (four l 1)) 5 _ e₄ in
+    let e₆ = demand-zero (ltb (four l 1) (B * d)) 6 _ (e₅ .1) in
+    let e₇ = demand-zero (ltb n 512) 7 _ (e₆ .1) in
+    let e₈ = demand-zero (ltb h 32) 7 0 (e₇ .1) in
+    record {
+      pitch = leb-true _ _ (e₂ .0);
+      rises = leb-true _ _ (e₅ .0);
+      inside = ltb-true _ _ (e₆ .0);
+      room = ltb-true _ _ (e₇ .0);
+      few = ltb-true _ _ (e₈ .0);
+    }
+
+-- a line that is not refused, and one that is
+pub read-on : (r : Progress) (n : ℕ) (b : List ℕ) (ls : List (List ℕ)) → refusal r (lineOf b) ≡ 0
+    → readLines r n (b ∷ ls) ≡ readLines (after r (lineOf b)) (n + 1) ls
+unfolding readLines
+read-on r n b ls e = simp (readLines, e)
+
+pub read-stop : (r : Progress) (n : ℕ) (b : List ℕ) (ls : List (List ℕ)) (k : ℕ) → k ≡ refusal r (lineOf b) → (k ≡ 0 → ⊥)
+    → readLines r n (b ∷ ls) ≡ refused k n
+unfolding readLines
+read-stop r n b ls zero e f = absurd (f refl)
+read-stop r n b ls (suc k) e f = simp (readLines, sym e)
+
+-- the text ends among the rules, before the first onset, after it
+pub end-in-rules : (g : Grammar) (n : ℕ) → readLines (inRules g) n [] ≡ refused 3 n
+unfolding readLines atEnd
+end-in-rules g n = refl
+
+pub end-without : (g : Grammar) (d : ℕ) (p : Playing) (last n : ℕ) → length (p .onsets) ≡ 0 → readLines (inOnsets g d p last) n [] ≡ refused 3 n
+unfolding readLines atEnd
+end-without g d p last n e = simp (le-ltb 0 (length (p .onsets)) (omega arith))
+
+pub end-with : (g : Grammar) (d : ℕ) (p : Playing) (last n : ℕ) → (length (p .onsets) ≡ 0 → ⊥)
+    → readLines (inOnsets g d p last) n [] ≡ accepted d (record { grammar = g; playing = p })
+unfolding readLines atEnd
+end-with g d p last n f = simp (lt-ltb 0 (length (p .onsets)) (omega (arith, f)))
+
+-- refusals 1 and 2
+module _ (t : List ℕ) where
+  pub too-long : 16384 < length t → readSheet t ≡ refused 1 0
+  unfolding readSheet
+  too-long h = simp (readSheet, lt-leb (length t) 16384 h)
+
+  formed : length t ≤ 16384 → readSheet t ≡ readFormed (badLine t) t
+  unfolding readSheet
+  formed h = simp (readSheet, le-leb (length t) 16384 h)
+
+  second : (n : ℕ) → readFormed (suc n) t ≡ refused 2 (suc n)
+  unfolding readFormed
+  second n = refl
+
+  pub ill-formed : length t ≤ 16384 → (k : ℕ) → k ≡ badLine t → (k ≡ 0 → ⊥) → readSheet t ≡ refused 2 k
+  ill-formed h zero e f = absurd (f refl)
+  ill-formed h (suc k) e f = formed h ∙ ap (λ (x : ℕ). readFormed x t) (sym e) ∙ second k
+
+  pub well-formed : length t ≤ 16384 → badLine t ≡ 0 → readSheet t ≡ readLines nothing 1 (lines t)
+  unfolding readFormed
+  well-formed h e = formed h ∙ ap (λ (x : ℕ). readFormed x t) e

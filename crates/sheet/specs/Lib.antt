@@ -1,0 +1,13 @@
+pub mod Sheet
+pub mod Reading
+pub mod Clock
+pub mod Held
+pub mod Good
+pub mod SoFar
+pub mod Laws
+pub mod GoodLaws
+pub mod Bounds
+pub mod Demands
+pub mod Buffer
+pub mod Literal
+pub mod Cases

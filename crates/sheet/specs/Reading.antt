@@ -1,0 +1,187 @@
+-- Reading a sheet: refusals 1 to 8 of document 01 ("When it says no"), or the sheet's meaning. For each kind of line there is the number
+-- of its refusal, its demands in the document's order, and what the line adds. A refusal is document 01's word for an answer that gives
+-- a number and a line in place of a result.
+use Prim.Native.Nat.{ℕ, zero, suc, _+_, _*_}
+use mathlib.Core.Bool.{Bool, true, false, cond, _&&_}
+use mathlib.Core.List.{List, [], _∷_, _++_}
+use lib.ListN.{length, getD}
+use lib.Dec.{ltb, leb, eqb}
+use Rattle.hextext.specs.Text.{badLine, lines}
+use Rattle.sheet.specs.declared.line.Line.{Line}
+use Rattle.sheet.specs.Sheet.{Rule, division, leaf, Onset, Grammar, Playing, Sheet, unitOf, barOf, inBar}
+
+-- a demand: the number of the refusal where the test fails, and what comes after it where it holds; 0 is no refusal
+abbrev pub demand : Bool → (number after : ℕ) → ℕ
+demand true number after = after
+demand false number after = number
+
+-- a line: how many bytes it has, and the bytes
+unfoldable pub lineOf : List ℕ → Line
+lineOf l = record { count = length l; bytes = l }
+
+-- "Fields are big-endian": byte i of a line, and the numbers of 2 and 4 bytes that start there
+abbrev pub byte : Line → ℕ → ℕ
+byte l i = getD (l .bytes) i 0
+
+unfoldable pub two : Line → ℕ → ℕ
+two l i = byte l i * 256 + byte l (i + 1)
+
+unfoldable pub four : Line → ℕ → ℕ
+four l i = two l i * 65536 + two l (i + 2)
+
+-- k bytes of a line, from byte i on
+unfoldable pub bytesFrom : (k i : ℕ) → Line → List ℕ
+bytesFrom zero i l = []
+bytesFrom (suc k) i l = byte l i ∷ bytesFrom k (i + 1) l
+
+-- every nonterminal of a list is below q
+unfoldable pub allBelow : ℕ → List ℕ → Bool
+allBelow q [] = true
+allBelow q (x ∷ xs) = ltb x q && allBelow q xs
+
+-- `47` grammar head, 5 bytes: kind, Q (1 to 16), start nonterminal, multiplier a (2 bytes, any)
+unfoldable pub headRefusal : Line → ℕ
+headRefusal l =
+    demand (eqb (l .count) 5) 4
+    (demand (leb 1 (byte l 1)) 5
+    (demand (leb (byte l 1) 16) 5
+    (demand (ltb (byte l 2) (byte l 1)) 5
+    0)))
+
+unfoldable pub headOf : Line → Grammar
+headOf l = record { nonterminals = byte l 1; start = byte l 2; multiplier = two l 3; rules = [] }
+
+-- `44` division, 5 + k bytes: kind, head, weight (2 bytes, any), k (2 to 8), k nonterminals; q is Q, `before` the number of rules before it.
+-- "Fewer than 5 bytes (4), then k (5), then the exact count (4), then other fields (5)"; rule 65 (8)
+unfoldable pub divisionRefusal : (q before : ℕ) → Line → ℕ
+divisionRefusal q before l =
+    demand (leb 5 (l .count)) 4
+    (demand (leb 2 (byte l 4)) 5
+    (demand (leb (byte l 4) 8) 5
+    (demand (eqb (l .count) (5 + byte l 4)) 4
+    (demand (ltb (byte l 1) q) 5
+    (demand (allBelow q (bytesFrom (byte l 4) 5 l)) 5
+    (demand (ltb before 64) 8
+    0))))))
+
+unfoldable pub divisionOf : Line → Rule
+divisionOf l = division (byte l 1) (two l 2) (bytesFrom (byte l 4) 5 l)
+
+-- `4C` leaf, 5 bytes: kind, head, weight (2 bytes, any), n (0 to 3); rule 65 (8)
+unfoldable pub leafRefusal : (q before : ℕ) → Line → ℕ
+leafRefusal q before l =
+    demand (eqb (l .count) 5) 4
+    (demand (ltb (byte l 1) q) 5
+    (demand (leb (byte l 4) 3) 5
+    (demand (ltb before 64) 8
+    0)))
+
+unfoldable pub leafOf : Line → Rule
+leafOf l = leaf (byte l 1) (two l 2) (byte l 4)
+
+unfoldable pub withRule : Grammar → Rule → Grammar
+withRule g r = record { nonterminals = g .nonterminals; start = g .start; multiplier = g .multiplier; rules = g .rules ++ (r ∷ []) }
+
+-- `45` playing head, 6 bytes: kind, bars B (1 to 64), one bar's duration in microseconds (4 bytes, 1,000 to 60,000,000)
+unfoldable pub playingRefusal : Line → ℕ
+playingRefusal l =
+    demand (eqb (l .count) 6) 4
+    (demand (leb 1 (byte l 1)) 5
+    (demand (leb (byte l 1) 64) 5
+    (demand (leb 1000 (four l 2)) 5
+    (demand (leb (four l 2) 60_000_000) 5
+    0))))
+
+unfoldable pub playingOf : Line → Playing
+playingOf l = record { bars = byte l 1; onsets = [] }
+
+-- `4E` onset, 7 bytes: kind, time in microseconds (4), pitch (0 to 127), velocity (1 to 127); time below the one before, `last` (6); time at
+-- or past B × duration (7); onset 513 (8), onset 33 of a bar (8). `before` is the number of onsets before it, `here` of those in its bar
+unfoldable pub onsetRefusal : (bars duration last before here : ℕ) → Line → ℕ
+onsetRefusal bars duration last before here l =
+    demand (eqb (l .count) 7) 4
+    (demand (leb (byte l 5) 127) 5
+    (demand (leb 1 (byte l 6)) 5
+    (demand (leb (byte l 6) 127) 5
+    (demand (leb last (four l 1)) 6
+    (demand (ltb (four l 1) (bars * duration)) 7
+    (demand (ltb before 512) 8
+    (demand (ltb here 32) 8
+    0)))))))
+
+unfoldable pub onsetOf : (duration : ℕ) → Line → Onset
+onsetOf duration l = record { unit = unitOf duration (four l 1); pitch = byte l 5 }
+
+unfoldable pub withOnset : Playing → Onset → Playing
+withOnset p o = record { bars = p .bars; onsets = p .onsets ++ (o ∷ []) }
+
+-- what has been read so far: nothing; from the `47` line on the grammar; from the `45` line on also one bar's duration, the playing and
+-- the time of the last onset, 0 before the first
+pub data Progress : Type 0 where
+  nothing : Progress
+  inRules : Grammar → Progress
+  inOnsets : Grammar → (duration : ℕ) → Playing → (last : ℕ) → Progress
+
+-- after the `47` line, with q nonterminals and `before` rules: a `44`, a `4C`, or the `45` line after one rule or more
+unfoldable pub rulesRefusal : (q before : ℕ) → Line → ℕ
+rulesRefusal q before l =
+    cond (eqb (byte l 0) 0x44) (divisionRefusal q before l)
+    (cond (eqb (byte l 0) 0x4C) (leafRefusal q before l)
+    (cond (eqb (byte l 0) 0x45) (demand (ltb 0 before) 3 (playingRefusal l))
+    3))
+
+-- "Order: one 47; 1 to 64 lines of 44 or 4C; one 45; 1 to 512 of 4E": the refusal of the next line, 3 to 8; 0: none
+unfoldable pub refusal : Progress → Line → ℕ
+refusal nothing l = cond (eqb (byte l 0) 0x47) (headRefusal l) 3
+refusal (inRules g) l = rulesRefusal (g .nonterminals) (length (g .rules)) l
+refusal (inOnsets g duration p last) l =
+    cond (eqb (byte l 0) 0x4E)
+    (onsetRefusal (p .bars) duration last (length (p .onsets)) (inBar (barOf (unitOf duration (four l 1))) (p .onsets)) l)
+    3
+
+-- what has been read after a line that is not refused
+unfoldable pub after : Progress → Line → Progress
+after nothing l = inRules (headOf l)
+after (inRules g) l =
+    cond (eqb (byte l 0) 0x44) (inRules (withRule g (divisionOf l)))
+    (cond (eqb (byte l 0) 0x4C) (inRules (withRule g (leafOf l)))
+    (inOnsets g (four l 2) (playingOf l) 0))
+after (inOnsets g duration p last) l = inOnsets g duration (withOnset p (onsetOf duration l)) (four l 1)
+
+-- a refusal with its number and its line; or an accepted text: one bar's duration, and the sheet
+pub data Outcome : Type 0 where
+  refused : (number line : ℕ) → Outcome
+  accepted : (duration : ℕ) → Sheet → Outcome
+
+-- "a refusal gives its number, the line"; "an accepted call gives number 0 and line 0"
+abbrev pub numberIn : Outcome → ℕ
+numberIn (refused k n) = k
+numberIn (accepted d s) = 0
+
+abbrev pub lineIn : Outcome → ℕ
+lineIn (refused k n) = n
+lineIn (accepted d s) = 0
+
+-- the text ends where line n would be next: 3 before a `4E`
+unfoldable pub atEnd : Progress → ℕ → Outcome
+atEnd nothing n = refused 3 n
+atEnd (inRules g) n = refused 3 n
+atEnd (inOnsets g duration p last) n =
+    cond (ltb 0 (length (p .onsets))) (accepted duration (record { grammar = g; playing = p })) (refused 3 n)
+
+-- the lines from line n on: the first that is refused, or the sheet
+unfoldable pub readLines : Progress → ℕ → List (List ℕ) → Outcome
+readLines r n [] = atEnd r n
+readLines r n (l ∷ ls) =
+    elim (refusal r (lineOf l)) [ zero ↦ readLines (after r (lineOf l)) (n + 1) ls | suc k ↦ refused (suc k) n ]
+
+-- refusal 2 over the whole text, given its first bad line, 0 for none; then line by line
+unfoldable pub readFormed : ℕ → List ℕ → Outcome
+readFormed zero t = readLines nothing 1 (lines t)
+readFormed (suc n) t = refused 2 (suc n)
+
+-- refusal 1, text over 16,384 bytes; then 2; then line by line 3, 4, 5, 6, 7, 8
+unfoldable pub readSheet : List ℕ → Outcome
+unfolding readFormed badLine readLines lines lineOf atEnd refusal rulesRefusal after headRefusal headOf divisionRefusal divisionOf allBelow bytesFrom
+    leafRefusal leafOf withRule playingRefusal playingOf onsetRefusal onsetOf withOnset inBar unitOf two four
+readSheet t = elim (leb (length t) 16384) [ true ↦ readFormed (badLine t) t | false ↦ refused 1 0 ]

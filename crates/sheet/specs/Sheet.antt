@@ -1,0 +1,49 @@
+-- What a sheet means (document 01, "The sheet" and "Two clocks"; a sheet is document 01's word for a grammar with a performance).
+-- Layers above reading see `Sheet` alone: musical time in units, never a duration or a time in microseconds.
+use Prim.Native.Nat.{ℕ, _+_, _*_, _/_}
+use mathlib.Core.Bool.{cond}
+use mathlib.Core.List.{List, [], _∷_}
+use lib.Dec.{eqb}
+
+-- a rule: a division has its head, its weight and the nonterminals of its parts; a leaf its head, its weight and n
+pub data Rule : Type 0 where
+  division : ℕ → ℕ → List ℕ → Rule
+  leaf : ℕ → ℕ → ℕ → Rule
+
+-- an onset: its unit, counted from the first bar, and its pitch
+pub record Onset : Type 0 where
+  pub unit : ℕ
+  pub pitch : ℕ
+
+-- Q, the start nonterminal, the multiplier a, and the rules in sheet order, numbered from 0
+pub record Grammar : Type 0 where
+  pub nonterminals : ℕ
+  pub start : ℕ
+  pub multiplier : ℕ
+  pub rules : List Rule
+
+-- B and the onsets in sheet order
+pub record Playing : Type 0 where
+  pub bars : ℕ
+  pub onsets : List Onset
+
+pub record Sheet : Type 0 where
+  pub grammar : Grammar
+  pub playing : Playing
+
+-- "A bar has 20,160 units"
+abbrev pub barUnits : ℕ
+barUnits = 20160
+
+-- "An onset at t microseconds is at unit floor(t × 20,160 / duration), counted from the first bar"
+unfoldable pub unitOf : (duration t : ℕ) → ℕ
+unitOf duration t = t * barUnits / duration
+
+-- the bar of a unit, from 0
+abbrev pub barOf : ℕ → ℕ
+barOf u = u / barUnits
+
+-- how many onsets are in bar b, counted from units
+unfoldable pub inBar : ℕ → List Onset → ℕ
+inBar b [] = 0
+inBar b (o ∷ os) = cond (eqb (barOf (o .unit)) b) 1 0 + inBar b os

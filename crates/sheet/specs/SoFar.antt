@@ -1,0 +1,21 @@
+-- What holds of a sheet in the course of reading it.
+use Prim.Native.Nat.{ℕ, _≤_}
+use mathlib.Core.List.{List}
+use lib.ListN.{length}
+use Rattle.slices.specs.Every.{Every}
+use Rattle.sheet.specs.Sheet.{Onset, Grammar, Playing, unitOf}
+use Rattle.sheet.specs.Reading.{Progress, nothing, inRules, inOnsets}
+use Rattle.sheet.specs.Good.{GoodRules, GoodOnsets}
+
+-- a playing in the course of reading: no onset is later than the last one's time
+pub record GoodSoFar (duration : ℕ) (p : Playing) (last : ℕ) : Type 0 where
+  pub shortest : 1000 ≤ duration
+  pub longest : duration ≤ 60_000_000
+  pub onsets : GoodOnsets p
+  pub before : Every (λ (o : Onset). o .unit ≤ unitOf duration last) (p .onsets)
+
+-- what holds of what has been read
+abbrev pub GoodProgress : Progress → Type 0
+GoodProgress nothing = Unit {0}
+GoodProgress (inRules g) = GoodRules g
+GoodProgress (inOnsets g d p last) = GoodRules g × (1 ≤ length (g .rules)) × GoodSoFar d p last

@@ -1,0 +1,20 @@
+// A sheet: its meaning in specs/, and here the tables that hold it, the two clocks with the one conversion between them, and the fields of
+// a line.
+mod clock;
+mod line;
+mod table;
+
+pub use clock::Micros;
+pub use clock::Units;
+pub use clock::unit_of;
+pub use line::Line;
+pub use line::Taken;
+pub use line::four_at;
+pub use line::line_at;
+pub use line::narrow;
+pub use line::two_at;
+pub use table::GrammarTable;
+pub use table::PlayingTable;
+pub use table::Reading;
+pub use table::Rule;
+pub use table::RuleCell;

@@ -1,0 +1,41 @@
+// A sheet as the code holds it.
+use crate::clock::Micros;
+use crate::clock::Units;
+
+// A rule: a division or a leaf, each with its own fields. The nonterminals of a division's parts stand in a flat array beside it.
+pub enum Rule {
+    Division { head: u8, weight: u16, arity: u8 },
+    Leaf { head: u8, weight: u16, n: u8 },
+}
+
+// An array holds a rule in a struct: an array of enums is not covered as a struct's field.
+pub struct RuleCell {
+    pub rule: Rule,
+}
+
+// The grammar: `count` rules from the front of `rules`; the parts of rule i from place 8 × i of `children` on. Places left are zero.
+pub struct GrammarTable {
+    pub nonterminals: u8,
+    pub start: u8,
+    pub multiplier: u16,
+    pub count: usize,
+    pub rules: [RuleCell; 64],
+    pub children: [u8; 512],
+}
+
+// The playing: `count` onsets from the front of both arrays; places left are zero.
+pub struct PlayingTable {
+    pub bars: u8,
+    pub count: usize,
+    pub units: [Units; 512],
+    pub pitches: [u8; 512],
+}
+
+// What reading gives: a refusal with its number and its line, and zeros elsewhere; or number 0, line 0 and the sheet.
+pub struct Reading {
+    pub number: u8,
+    pub line: usize,
+    pub duration: Micros,
+    pub grammar: GrammarTable,
+    pub playing: PlayingTable,
+}

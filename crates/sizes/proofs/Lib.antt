@@ -1,0 +1,7 @@
+pub mod AmongSteps
+pub mod FlagSteps
+pub mod AritySteps
+pub mod ReachedSteps
+pub mod LengthSteps
+pub mod BarSteps
+pub mod Products

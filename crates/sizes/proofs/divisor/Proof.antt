@@ -1,0 +1,20 @@
+-- `sizes::divisor` meets its contract: the code's table is `divisors`, entry by entry.
+-- Assumes nothing.
+use mathlib.Core.Path.{refl}
+use borrow.Author.Needs.{needs}
+use Rattle.sizes.specs.Sizes.{divisors}
+use Rattle.sizes.proofs.divisor.Statement.{statement}
+use Rattle.sizes.proofs.divisor.Tie as tie
+
+mul-result : tie.Need-mul-result
+mul-result c = search needs
+
+array-read-result : tie.Need-array-read-result
+array-read-result c = search needs
+
+returns : tie.Need-returns
+unfolding divisors
+returns c = refl
+
+pub divisor-spec : {M : Type 1} → statement M
+divisor-spec = tie.close (tie.spec mul-result array-read-result returns)

@@ -1,0 +1,261 @@
+// The lengths of intervals that a grammar's divisions reach, and the required lengths of finding's slices.
+ghost use mathlib.Core.Path.{_≡_};
+ghost use mathlib.Core.List.{List};
+ghost use Prim.Native.Nat.{ℕ, _+_, _*_, _<_, _≤_};
+ghost use lib.ListN.{length, getD};
+ghost use Rattle.slices.specs.Pad.{pad};
+ghost use Rattle.sheet.specs.Sheet.{Grammar, Playing, Sheet};
+ghost use Rattle.sheet.specs.Held.{grammarTable, playingTable};
+ghost use Rattle.sheet.specs.Good.{GoodRules, GoodOnsets, Good};
+ghost use Rattle.sizes.specs.Sizes.{divisors, member, reached, lengthsOf, mostInBar, treeBytes, workCells};
+ghost use Rattle.sizes.specs.Held.{arityFlags, lengthTable};
+use sheet::GrammarTable;
+use sheet::PlayingTable;
+use sheet::Rule;
+use sheet::Units;
+
+// The divisors of 20,160, from the largest down.
+const DIVISORS: [u32; 84] = [
+    20160,
+    10080,
+    6720,
+    5040,
+    4032,
+    3360,
+    2880,
+    2520,
+    2240,
+    2016,
+    1680,
+    1440,
+    1344,
+    1260,
+    1120,
+    1008,
+    960,
+    840,
+    720,
+    672,
+    630,
+    576,
+    560,
+    504,
+    480,
+    448,
+    420,
+    360,
+    336,
+    320,
+    315,
+    288,
+    280,
+    252,
+    240,
+    224,
+    210,
+    192,
+    180,
+    168,
+    160,
+    144,
+    140,
+    126,
+    120,
+    112,
+    105,
+    96,
+    90,
+    84,
+    80,
+    72,
+    70,
+    64,
+    63,
+    60,
+    56,
+    48,
+    45,
+    42,
+    40,
+    36,
+    35,
+    32,
+    30,
+    28,
+    24,
+    21,
+    20,
+    18,
+    16,
+    15,
+    14,
+    12,
+    10,
+    9,
+    8,
+    7,
+    6,
+    5,
+    4,
+    3,
+    2,
+    1,
+];
+
+// The lengths of intervals: `count` from the front of `cells`, from the largest down, the whole bar first. Places left are zero.
+pub struct LengthTable {
+    pub count: usize,
+    pub cells: [u32; 84],
+}
+
+// The length at a place.
+pub fn length_at(l: LengthTable, i: usize) -> Units
+    requires { ⌜ i < 84 ⌝ }
+    ensures { λ r. ⌜ r .0 ≡ getD (l .cells) i 0 ⌝ }
+{
+    Units(l.cells[i])
+}
+
+// The divisor of 20,160 at a place.
+fn divisor(j: usize) -> u32
+    requires { ⌜ j < 84 ⌝ }
+    ensures { λ r. ⌜ r ≡ getD divisors j 0 ⌝ }
+{
+    DIVISORS[j]
+}
+
+// For each k up to 8 whether some division has k parts.
+fn arities(g: GrammarTable) -> [bool; 9]
+    requires { ⌜ g .count ≤ 64 ⌝ }
+    ensures { λ r. ⌜ ((h : Grammar) → GoodRules h → g ≡ grammarTable h → r ≡ arityFlags (h .rules)) ⌝ }
+{
+    let mut flags = [false; 9];
+    let n = g.count;
+    let mut i: usize = 0;
+    while i < n {
+        let cell = g.rules[i];
+        let rule = cell.rule;
+        i += 1;
+        match rule {
+            Rule::Division {
+                head: _,
+                weight: _,
+                arity,
+            } => {
+                if arity < 9 {
+                    flags[arity as usize] = true;
+                }
+            }
+            Rule::Leaf {
+                head: _,
+                weight: _,
+                n: _,
+            } => {}
+        }
+    }
+    flags
+}
+
+// Whether x is among the first `count` cells.
+fn among(cells: &[u32; 84], count: usize, x: u32) -> bool
+    requires { ⌜ count ≤ 84 ⌝ }
+    ensures { λ r. ⌜ ((xs : List ℕ) → length xs ≡ count → now (cells .entry) ≡ pad 84 0 xs → r ≡ member x xs) ⌝ }
+{
+    let mut i: usize = 0;
+    while i < count {
+        let y = cells[i];
+        i += 1;
+        if x == y {
+            return true;
+        }
+    }
+    false
+}
+
+// Whether d is the whole bar, or some arity times d is among the first `count` cells.
+fn is_reached(flags: [bool; 9], cells: &[u32; 84], count: usize, d: u32) -> bool
+    requires { ⌜ (count ≤ 84) × (d ≤ 20160) ⌝ }
+    ensures { λ r. ⌜ ((h : Grammar) (xs : List ℕ) → flags ≡ arityFlags (h .rules) → length xs ≡ count → now (cells .entry) ≡ pad 84 0 xs → r ≡ reached (h .rules) xs d) ⌝ }
+{
+    if d == 20160 {
+        return true;
+    }
+    let mut k: usize = 2;
+    let mut x = d;
+    while k < 9 {
+        let used = flags[k];
+        x += d;
+        k += 1;
+        if used {
+            if among(cells, count, x) {
+                return true;
+            }
+        }
+    }
+    false
+}
+
+// The lengths that the divisions of a grammar reach.
+pub fn lengths(g: GrammarTable) -> LengthTable
+    requires { ⌜ g .count ≤ 64 ⌝ }
+    ensures { λ r. ⌜ (r .count ≤ 84) × ((h : Grammar) → GoodRules h → g ≡ grammarTable h → r ≡ lengthTable (lengthsOf (h .rules))) ⌝ }
+{
+    let flags = arities(g);
+    let mut cells = [0u32; 84];
+    let mut count: usize = 0;
+    let mut j: usize = 0;
+    while j < 84 {
+        let d = divisor(j);
+        j += 1;
+        if is_reached(flags, &cells, count, d) {
+            cells[count] = d;
+            count += 1;
+        }
+    }
+    LengthTable { count, cells }
+}
+
+// The largest number of onsets in a bar: units never fall, so a bar's onsets stand together.
+pub fn most_in_bar(p: PlayingTable) -> usize
+    requires { ⌜ p .count ≤ 512 ⌝ }
+    ensures { λ r. ⌜ (r ≤ 512) × ((q : Playing) → GoodOnsets q → p ≡ playingTable q → r ≡ mostInBar q) ⌝ }
+{
+    let n = p.count;
+    let mut most: usize = 0;
+    let mut run: usize = 0;
+    let mut bar: u32 = 0;
+    let mut i: usize = 0;
+    while i < n {
+        let unit = p.units[i];
+        let b = unit.0 / 20160;
+        i += 1;
+        if b != bar {
+            run = 0;
+            bar = b;
+        }
+        run += 1;
+        if most < run {
+            most = run;
+        }
+    }
+    most
+}
+
+// The required length of finding's tree slice, in bytes.
+pub fn tree_bytes(p: PlayingTable) -> usize
+    requires { ⌜ p .count ≤ 512 ⌝ }
+    ensures { λ r. ⌜ ((s : Sheet) → p ≡ playingTable (s .playing) → r ≡ treeBytes s) ⌝ }
+{
+    (p.bars as usize) + 80 * p.count
+}
+
+// The required length of finding's work slice, in cells.
+pub fn work_cells(g: GrammarTable, p: PlayingTable) -> usize
+    requires { ⌜ (g .count ≤ 64) × (p .count ≤ 512) ⌝ }
+    ensures { λ r. ⌜ ((d : ℕ) (s : Sheet) → Good d s → g ≡ grammarTable (s .grammar) → p ≡ playingTable (s .playing) → r ≡ workCells s) ⌝ }
+{
+    let reached = lengths(g);
+    let most = most_in_bar(p);
+    let rows = (g.nonterminals as usize) * reached.count;
+    16 * (rows * most + (p.bars as usize))
+}

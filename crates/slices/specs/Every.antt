@@ -1,0 +1,32 @@
+-- A property of every element of a list.
+use Prim.Native.Nat.{ℕ, zero, suc, _<_}
+use mathlib.Core.List.{List, [], _∷_, _++_}
+use native.Mathlib.Omega.{arith}
+use lib.ListN.{length, getD}
+
+abbrev pub Every : {A : Type 0} → (A → Type 0) → List A → Type 0
+Every P [] = Unit {0}
+Every P (x ∷ xs) = P x × Every P xs
+
+module _ {A : Type 0} (P : A → Type 0) where
+  -- one element more
+  pub every-more : (xs : List A) (x : A) → Every P xs → P x → Every P (xs ++ (x ∷ []))
+  every-more [] x e p = (p, tt)
+  every-more (y ∷ xs) x e p = (e .0, every-more xs x (e .1) p)
+
+  -- the element at a place, and the default past the end
+  pub every-at : (xs : List A) (i : ℕ) (d : A) → Every P xs → P d → P (getD xs i d)
+  every-at [] i d e p = p
+  every-at (x ∷ xs) zero d e p = e .0
+  every-at (x ∷ xs) (suc i) d e p = every-at xs i d (e .1) p
+
+-- the element at a place of the list
+pub every-in : {A : Type 0} (P : A → Type 0) (xs : List A) (i : ℕ) (d : A) → i < length xs → Every P xs → P (getD xs i d)
+every-in P [] i d h e = let f : ⊥ = omega arith in absurd f
+every-in P (x ∷ xs) zero d h e = e .0
+every-in P (x ∷ xs) (suc i) d h e = every-in P xs i d (omega arith) (e .1)
+
+-- a weaker property
+pub every-weaken : {A : Type 0} (P Q : A → Type 0) → ((x : A) → P x → Q x) → (xs : List A) → Every P xs → Every Q xs
+every-weaken P Q f [] e = tt
+every-weaken P Q f (x ∷ xs) e = (f x (e .0), every-weaken P Q f xs (e .1))

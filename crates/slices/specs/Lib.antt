@@ -1,0 +1,5 @@
+pub mod Over
+pub mod Pad
+pub mod Table
+pub mod Every
+pub mod Test

@@ -1,0 +1,74 @@
+-- A list written over a slice: what a function leaves that writes cell after cell and keeps every other cell.
+use mathlib.Core.Path.{_≡_, refl, ap, sym, _∙_}
+use mathlib.Core.List.{List, [], _∷_, _++_}
+use Prim.Native.Nat.{ℕ, zero, suc, _+_, _≤_, _<_}
+use native.Mathlib.Nat.{suc-add, zero-add}
+use native.Mathlib.Omega.{arith}
+use lib.ListN.{length, set, getD}
+
+module _ {A : Type 0} where
+  -- bs over the front of xs, as far as there is room; the cells behind bs are those of xs
+  unfoldable pub over : List A → List A → List A
+  over [] xs = xs
+  over (b ∷ bs) [] = []
+  over (b ∷ bs) (x ∷ xs) = b ∷ over bs xs
+
+  -- the same from cell n on
+  unfoldable pub overFrom : ℕ → List A → List A → List A
+  unfolding over
+  overFrom zero bs xs = over bs xs
+  overFrom (suc n) bs [] = []
+  overFrom (suc n) bs (x ∷ xs) = x ∷ overFrom n bs xs
+
+  pub length-over : (bs xs : List A) → length (over bs xs) ≡ length xs
+  unfolding over
+  length-over [] xs = refl
+  length-over (b ∷ bs) [] = refl
+  length-over (b ∷ bs) (x ∷ xs) = ap suc (length-over bs xs)
+
+  pub length-over-from : (n : ℕ) (bs xs : List A) → length (overFrom n bs xs) ≡ length xs
+  unfolding overFrom
+  length-over-from zero bs xs = length-over bs xs
+  length-over-from (suc n) bs [] = refl
+  length-over-from (suc n) bs (x ∷ xs) = ap suc (length-over-from n bs xs)
+
+  -- nothing written
+  pub over-nil : (xs : List A) → over [] xs ≡ xs
+  unfolding over
+  over-nil xs = refl
+
+  pub over-from-nil : (n : ℕ) (xs : List A) → overFrom n [] xs ≡ xs
+  unfolding overFrom
+  over-from-nil zero xs = refl
+  over-from-nil (suc n) [] = refl
+  over-from-nil (suc n) (x ∷ xs) = ap (λ (l : List A). x ∷ l) (over-from-nil n xs)
+
+  -- one cell more
+  pub over-more : (bs xs : List A) (b : A) → length bs < length xs → set (over bs xs) (length bs) b ≡ over (bs ++ (b ∷ [])) xs
+  unfolding over
+  over-more [] [] b h = let f : ⊥ = omega arith in absurd f
+  over-more [] (x ∷ xs) b h = refl
+  over-more (c ∷ bs) [] b h = let f : ⊥ = omega arith in absurd f
+  over-more (c ∷ bs) (x ∷ xs) b h = ap (λ (l : List A). c ∷ l) (over-more bs xs b (omega arith))
+
+  pub over-from-more : (n : ℕ) (bs xs : List A) (b : A) → n + length bs < length xs
+      → set (overFrom n bs xs) (n + length bs) b ≡ overFrom n (bs ++ (b ∷ [])) xs
+  unfolding overFrom
+  over-from-more zero bs xs b h = rw zero-add (over-more bs xs b (omega arith))
+  over-from-more (suc n) bs [] b h = let f : ⊥ = omega arith in absurd f
+  over-from-more (suc n) bs (x ∷ xs) b h = rw suc-add (ap (λ (l : List A). x ∷ l) (over-from-more n bs xs b (omega arith)))
+
+  -- one element more, where there is no cell for it
+  pub over-full : (bs xs : List A) (b : A) → length xs ≤ length bs → over bs xs ≡ over (bs ++ (b ∷ [])) xs
+  unfolding over
+  over-full [] [] b h = refl
+  over-full [] (x ∷ xs) b h = let f : ⊥ = omega arith in absurd f
+  over-full (c ∷ bs) [] b h = refl
+  over-full (c ∷ bs) (x ∷ xs) b h = ap (λ (l : List A). c ∷ l) (over-full bs xs b (omega arith))
+
+  -- one text behind another
+  pub over-append : (cs bs xs : List A) → length cs ≤ length xs → overFrom (length cs) bs (over cs xs) ≡ over (cs ++ bs) xs
+  unfolding over overFrom
+  over-append [] bs xs h = refl
+  over-append (c ∷ cs) bs [] h = let f : ⊥ = omega arith in absurd f
+  over-append (c ∷ cs) bs (x ∷ xs) h = ap (λ (l : List A). c ∷ l) (over-append cs bs xs (omega arith))

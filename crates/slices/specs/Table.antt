@@ -1,0 +1,33 @@
+-- A slice filled from its front by a function: what a loop that prepares or clears cells leaves.
+use mathlib.Core.Path.{_≡_, refl, sym, ap, subst, _∙_}
+use mathlib.Core.List.{List, [], _∷_}
+use Prim.Native.Nat.{ℕ, suc, _+_, _-_, _≤_, _<_}
+use native.Mathlib.Omega.{arith}
+use borrow.Author.Count.{below-more}
+use lib.ListN.{length, drop, set, getD, length-set}
+use lib.Seq.{drop-set-lt, drop-drop, getD-set-same, getD-set-other}
+
+-- ys is xs but for its first n cells, which are f 0, f 1 and so on
+pub record Table (f : ℕ → ℕ) (xs ys : List ℕ) (n : ℕ) : Type 0 where
+  pub size : length ys ≡ length xs
+  pub each : (i : ℕ) → i < n → getD ys i 0 ≡ f i
+  pub rest : drop n ys ≡ drop n xs
+
+pub table-none : (f : ℕ → ℕ) (xs : List ℕ) → Table f xs xs 0
+table-none f xs = record { size = refl; each = λ i l. absurd (omega arith); rest = refl }
+
+-- lists that are equal past n are equal past any m behind it
+pub equal-further : {A : Type 0} (xs ys : List A) (n m : ℕ) → n ≤ m → drop n ys ≡ drop n xs → drop m ys ≡ drop m xs
+equal-further xs ys n m h e =
+    let k : n + (m - n) ≡ m = omega arith in
+    subst (λ i. drop i ys ≡ drop i xs) k (sym (drop-drop (m - n) n ys) ∙ ap (drop (m - n)) e ∙ drop-drop (m - n) n xs)
+
+-- one cell more
+pub table-more : {f : ℕ → ℕ} {xs ys : List ℕ} {n : ℕ} {v : ℕ} → Table f xs ys n → n < length xs → v ≡ f n → Table f xs (set ys n v) (n + 1)
+table-more {f} {xs} {ys} {n} {v} t l e =
+    let k : n < length ys = omega (arith, t .size) in
+    record {
+      size = length-set ys n v ∙ t .size;
+      each = below-more _ _ (λ i h. getD-set-other ys n i v 0 (λ s. omega arith) ∙ t .each i h) (getD-set-same ys n v 0 k ∙ e);
+      rest = drop-set-lt (n + 1) ys n v (omega arith) ∙ equal-further xs ys n (n + 1) (omega arith) (t .rest);
+    }
