@@ -60,13 +60,15 @@ module _ (t : List ℕ) (r : Reading) (e : r ≡ readingOf (readSheet t)) where
 
   -- number 0 is that of an accepted text
   module _ (z : r .number ≡ 0) where
-    accepted-by : (P : Outcome → Type 0) → ((d : ℕ) (s : Sheet) → Good d s → r ≡ readingOf (accepted d s) → P (accepted d s)) → P (readSheet t)
+    accepted-by : (P : Outcome → Type 0) → ((d : ℕ) (s : Sheet) → Good d s → r ≡ readingOf (accepted d s) → P (accepted d s))
+        → P (readSheet t)
     accepted-by P g =
         by-outcome P (λ k n q. absurd (let m = refused-within t k n q .0 in omega (arith, sym (ap numberIn q) ∙ sym number-is ∙ z)))
         (λ d s q h. g d s h (e ∙ ap readingOf q))
 
     pub work-is : (n : ℕ)
-        → ((d : ℕ) (s : Sheet) → Good d s → r .grammar ≡ grammarTable (s .grammar) → r .playing ≡ playingTable (s .playing) → n ≡ workCells s)
+        → ((d : ℕ) (s : Sheet) → Good d s → r .grammar ≡ grammarTable (s .grammar) → r .playing ≡ playingTable (s .playing)
+        → n ≡ workCells s)
         → n ≡ workOf (readSheet t)
     unfolding readingOf
     work-is n f =
@@ -83,10 +85,12 @@ module _ (t : List ℕ) (r : Reading) (e : r ≡ readingOf (readSheet t)) where
   unit-is i h =
       rw e (by-outcome (λ (o : Outcome). getD (readingOf o .playing .units) i (units 0) .0 ≡ unitAt o i)
       (λ k n q. ap (λ (u : Units). u .0) (getD-pad 512 (units 0) [] i h))
-      (λ d s q good. ap (λ (u : Units). u .0) (getD-pad 512 (units 0) (map unitsOf (s .playing .onsets)) i h ∙ List·getD-map unitsOf (s .playing .onsets) i noOnset)))
+      (λ d s q good. ap (λ (u : Units). u .0) (getD-pad 512 (units 0) (map unitsOf (s .playing .onsets)) i h
+      ∙ List·getD-map unitsOf (s .playing .onsets) i noOnset)))
 
   -- past them there is no onset
   pub unit-none : (i : ℕ) → 512 ≤ i → 0 ≡ unitAt (readSheet t) i
   unit-none i h =
       by-outcome (λ (o : Outcome). 0 ≡ unitAt o i) (λ k n q. refl)
-      (λ d s q good. sym (ap (λ (o : Onset). o .unit) (List·getD-eq-default (s .playing .onsets) noOnset {n = i} (le-trans (good .onsets .most) h))))
+      (λ d s q good. sym (ap (λ (o : Onset). o .unit) (List·getD-eq-default (s .playing .onsets) noOnset {n = i}
+      (le-trans (good .onsets .most) h))))

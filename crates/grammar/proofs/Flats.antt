@@ -30,7 +30,8 @@ module _ (l : Line) where
   bytes-snoc zero i = let e : i ≡ 0 + i = omega arith in ap (λ (n : ℕ). getD (l .bytes) n 0 ∷ []) e
   bytes-snoc (suc k) i =
       let e : k + (i + 1) ≡ suc k + i = omega arith in
-      ap (λ (t : List ℕ). getD (l .bytes) i 0 ∷ t) (bytes-snoc k (i + 1) ∙ ap (λ (n : ℕ). bytesFrom k (i + 1) l ++ (getD (l .bytes) n 0 ∷ [])) e)
+      ap (λ (t : List ℕ). getD (l .bytes) i 0 ∷ t) (bytes-snoc k (i + 1)
+      ∙ ap (λ (n : ℕ). bytesFrom k (i + 1) l ++ (getD (l .bytes) n 0 ∷ [])) e)
 
 pub below-yes : (q x : ℕ) (xs : List ℕ) → x < q → allBelow q (x ∷ xs) ≡ allBelow q xs
 unfolding allBelow
@@ -74,10 +75,12 @@ unfolding childCells
 flat-done rs ks h = sym (ap (pad 512 0) (flat-more rs ks) ∙ pad-tail 512 8 (flat rs) ks h)
 
 -- byte j of the parts, at its place
-pub cell-more : (l : Line) (rs : List (List ℕ)) (n j : ℕ) (cells : List ℕ) → length rs ≡ n → n < 64 → j < 8 → cells ≡ pad 512 0 (flat rs ++ bytesFrom j 5 l)
+pub cell-more : (l : Line) (rs : List (List ℕ)) (n j : ℕ) (cells : List ℕ) → length rs ≡ n → n < 64 → j < 8
+    → cells ≡ pad 512 0 (flat rs ++ bytesFrom j 5 l)
     → set cells (n * 8 + j) (getD (l .bytes) (j + 5) 0) ≡ pad 512 0 (flat rs ++ bytesFrom (j + 1) 5 l)
 cell-more l rs n j cells q hn hj e =
     let b = getD (l .bytes) (j + 5) 0 in
     pad-more 512 0 (flat rs ++ bytesFrom j 5 l) cells (n * 8 + j) b e
     (length-append (flat rs) (bytesFrom j 5 l) ∙ omega (arith, length-flat rs, length-bytes l j 5)) (omega arith)
-    ∙ ap (pad 512 0) (append-assoc (flat rs) (bytesFrom j 5 l) (b ∷ []) ∙ ap (λ (t : List ℕ). flat rs ++ t) (sym (bytes-snoc l j 5)) ∙ ap (λ (m : ℕ). flat rs ++ bytesFrom m 5 l) (sym (add-one j)))
+    ∙ ap (pad 512 0) (append-assoc (flat rs) (bytesFrom j 5 l) (b ∷ []) ∙ ap (λ (t : List ℕ). flat rs ++ t) (sym (bytes-snoc l j 5))
+    ∙ ap (λ (m : ℕ). flat rs ++ bytesFrom m 5 l) (sym (add-one j)))

@@ -12,7 +12,8 @@ use Rattle.sheet.specs.declared.table.RuleCell.{RuleCell}
 use Rattle.sheet.specs.declared.table.GrammarTable.{GrammarTable}
 use Rattle.grammar.specs.declared.Rules.{Rules}
 use Rattle.sheet.specs.Sheet.{Grammar}
-use Rattle.sheet.specs.Reading.{byte, four, bytesFrom, lineOf, playingOf, withRule, Progress, inRules, inOnsets, rulesRefusal, refusal, after, readLines, refused}
+use Rattle.sheet.specs.Reading.{byte, four, bytesFrom, lineOf, playingOf, withRule, Progress, inRules, inOnsets, rulesRefusal, refusal}
+use Rattle.sheet.specs.Reading.{after, readLines, refused}
 use Rattle.sheet.specs.Held.{held, noPlaying, grammarTable, partsOf, childCells}
 use Rattle.grammar.specs.Steps.{cellOf, arityOf}
 use Rattle.sheet.specs.Good.{GoodRules}
@@ -31,7 +32,8 @@ pub record RulesSoFar (t : List ℕ) (at n : ℕ) (h : Grammar) (table : Grammar
   pub rest : readLines (inRules h) n (lines (drop at t)) ≡ readLines (inRules grammar) n′ (lines (drop at′ t))
 
 -- none yet
-pub rules-none : (t : List ℕ) (at n : ℕ) (h : Grammar) (table : GrammarTable) → GoodRules h → table ≡ grammarTable h → RulesSoFar t at n h table at n
+pub rules-none : (t : List ℕ) (at n : ℕ) (h : Grammar) (table : GrammarTable) → GoodRules h → table ≡ grammarTable h
+    → RulesSoFar t at n h table at n
 rules-none t at n h table good e = record { grammar = h; good = good; table-is = e; rest = refl }
 
 module _ {t : List ℕ} {at n : ℕ} {h : Grammar} {table : GrammarTable} {at′ n′ : ℕ} (so : RulesSoFar t at n h table at′ n′) where
@@ -53,7 +55,8 @@ module _ {t : List ℕ} {at n : ℕ} {h : Grammar} {table : GrammarTable} {at′
   small i = byte-small (drop at′ t) i
 
   -- another line is read, whose refusal is k
-  module _ (inside : at′ < length t) (l : Line) (held-is : l ≡ held b) (k : ℕ) (number : k ≡ rulesRefusal (table .nonterminals) (table .count) l) where
+  module _ (inside : at′ < length t) (l : Line) (held-is : l ≡ held b) (k : ℕ)
+      (number : k ≡ rulesRefusal (table .nonterminals) (table .count) l) where
     number-is : k ≡ refusal (inRules g) L
     unfolding grammarTable refusal
     number-is =
@@ -107,7 +110,8 @@ module _ {t : List ℕ} {at n : ℕ} {h : Grammar} {table : GrammarTable} {at′
         next = after-rule l other (table .nonterminals) (table .count) (sym number ∙ z) g
 
         pub rules-more : (cell : RuleCell) → cell ≡ cellOf l → (children : List ℕ) (m : ℕ) → m ≡ arityOf l
-            → ((rs : List (List ℕ)) → length rs ≡ table .count → table .children ≡ childCells rs → children ≡ childCells (rs ++ (bytesFrom m 5 l ∷ [])))
+            → ((rs : List (List ℕ)) → length rs ≡ table .count → table .children ≡ childCells rs
+            → children ≡ childCells (rs ++ (bytesFrom m 5 l ∷ [])))
             → (table′ : GrammarTable)
             → table′ ≡ record {
               nonterminals = table .nonterminals;

@@ -13,7 +13,8 @@ use Rattle.sheet.specs.declared.table.RuleCell.{RuleCell}
 use Rattle.sheet.specs.declared.table.Rule.the-variants.{Division, Leaf}
 use Rattle.sheet.specs.declared.table.GrammarTable.{GrammarTable}
 use Rattle.sheet.specs.Sheet.{Rule, Grammar}
-use Rattle.sheet.specs.Reading.{byte, two, four, bytesFrom, divisionRefusal, divisionOf, leafRefusal, leafOf, playingRefusal, playingOf, withRule, demand, inRules, inOnsets, rulesRefusal, after}
+use Rattle.sheet.specs.Reading.{byte, two, four, bytesFrom, divisionRefusal, divisionOf, leafRefusal, leafOf, playingRefusal}
+use Rattle.sheet.specs.Reading.{playingOf, withRule, demand, inRules, inOnsets, rulesRefusal, after}
 use Rattle.sheet.specs.Held.{noRule, ruleCell, partsOf, childCells, grammarTable}
 use Rattle.sheet.specs.Laws.{length-bytes, division-passed, leaf-passed}
 use Rattle.grammar.specs.Steps.{cellOf, arityOf}
@@ -69,7 +70,8 @@ module _ (l : Line) where
       where
         go : (a b c : Bool) → eqb (byte l 0) 0x45 ≡ c
             → cond a (divisionRefusal q n l) (cond b (leafRefusal q n l) (cond c (demand (ltb 0 n) 3 (playingRefusal l)) 3)) ≡ 0
-            → cond a (inRules (withRule g (divisionOf l))) (cond b (inRules (withRule g (leafOf l))) (inOnsets g (four l 2) (playingOf l) 0))
+            → cond a (inRules (withRule g (divisionOf l))) (cond b (inRules (withRule g (leafOf l)))
+            (inOnsets g (four l 2) (playingOf l) 0))
             ≡ inRules (withRule g (cond a (divisionOf l) (leafOf l)))
         go true b c ec z = refl
         go false true c ec z = refl

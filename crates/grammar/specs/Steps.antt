@@ -2,7 +2,7 @@
 use Prim.Native.Nat.{ℕ, _+_, _≤_}
 use mathlib.Core.Path.{_≡_}
 use mathlib.Core.Bool.{cond}
-use mathlib.Core.List.{List}
+use mathlib.Core.List.{List, [], _∷_, _++_}
 use lib.ListN.{length, drop}
 use lib.Dec.{eqb}
 use Rattle.hextext.specs.Text.{lines}
@@ -11,7 +11,7 @@ use Rattle.sheet.specs.declared.table.Rule.the-variants.{Division, Leaf}
 use Rattle.sheet.specs.declared.table.RuleCell.{RuleCell}
 use Rattle.sheet.specs.Sheet.{Grammar}
 use Rattle.sheet.specs.Reading.{byte, two, inRules, inOnsets, readLines, refused}
-use Rattle.sheet.specs.Held.{grammarTable, noPlaying}
+use Rattle.sheet.specs.Held.{grammarTable, noPlaying, childCells}
 use Rattle.sheet.specs.SoFar.{GoodProgress}
 use Rattle.grammar.specs.declared.Rules.{Rules}
 
@@ -24,6 +24,11 @@ cellOf l =
 
 unfoldable pub arityOf : Line → ℕ
 arityOf l = cond (eqb (byte l 0) 0x44) (byte l 4) 0
+
+-- the parts of rule n, behind those of the rules before it
+abbrev pub PartsPut : (n : ℕ) (parts before after : List ℕ) → Type 0
+PartsPut n parts before after =
+    (rs : List (List ℕ)) → length rs ≡ n → before ≡ childCells rs → after ≡ childCells (rs ++ (parts ∷ []))
 
 -- the rules are read, up to the `45` line: a grammar, and the same outcome from the line after that on
 pub record RulesDone (t : List ℕ) (at n : ℕ) (h : Grammar) (r : Rules) : Type 0 where

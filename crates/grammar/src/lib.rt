@@ -1,13 +1,12 @@
 // The grammar of a sheet: the `47` line, and the lines up to the `45` line, which ends the rules.
 ghost use mathlib.Core.Path.{_≡_};
-ghost use mathlib.Core.List.{List, [], _∷_, _++_};
 ghost use Prim.Native.Nat.{ℕ, _+_, _*_, _≤_, _<_};
 ghost use lib.ListN.{length};
 ghost use Rattle.sheet.specs.Sheet.{Grammar};
 ghost use Rattle.sheet.specs.Reading.{headRefusal, headOf, divisionRefusal, leafRefusal, playingRefusal, rulesRefusal, allBelow, bytesFrom};
-ghost use Rattle.sheet.specs.Held.{grammarTable, noGrammar, childCells};
+ghost use Rattle.sheet.specs.Held.{grammarTable, noGrammar};
 ghost use Rattle.sheet.specs.Good.{GoodRules};
-ghost use Rattle.grammar.specs.Steps.{cellOf, arityOf, RulesRead};
+ghost use Rattle.grammar.specs.Steps.{cellOf, arityOf, PartsPut, RulesRead};
 use sheet::GrammarTable;
 use sheet::Line;
 use sheet::Micros;
@@ -233,7 +232,7 @@ fn arity_of(l: Line) -> usize
 // Puts k nonterminals of a line, from byte 5 on, at the eight places of rule n.
 fn put_parts(children: &mut [u8; 512], n: usize, k: usize, l: Line)
     requires { ⌜ (n < 64) × (k ≤ 8) ⌝ }
-    ensures { λ _. ⌜ ((rs : List (List ℕ)) → length rs ≡ n → now (children .entry) ≡ childCells rs → now (children .exit) ≡ childCells (rs ++ (bytesFrom k 5 l ∷ []))) ⌝ }
+    ensures { λ _. ⌜ PartsPut n (bytesFrom k 5 l) (now (children .entry)) (now (children .exit)) ⌝ }
 {
     let mut j: usize = 0;
     while j < k {

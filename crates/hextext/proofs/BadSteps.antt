@@ -1,7 +1,7 @@
 -- Steps of `badFrom` where a line starts or has had some pairs, by the next byte or pair of the text. Assumes nothing.
 use Prim.Native.Nat.{ℕ, _+_, _<_, _≤_}
 use mathlib.Core.Path.{_≡_, refl, sym, ap, _∙_}
-use mathlib.Core.Bool.{Bool, true, false, true≢false}
+use mathlib.Core.Bool.{Bool, true, false, _&&_, true≢false, false≢true}
 use mathlib.Core.List.{List, [], _∷_}
 use native.Mathlib.Omega.{arith}
 use native.Mathlib.Decide.{ℕ-discrete}
@@ -66,10 +66,6 @@ module _ (n : ℕ) (begun : Bool) (t : List ℕ) (i : ℕ) (h : i < length t) wh
   unfolding badFrom
   bad-closed e q = simp (drop-step t i h, q, badFrom, eq-eqb _ _ e)
 
-  -- a foreign byte
-  pub bad-foreign : (getD t i 0 ≡ 10 → ⊥) → isDigit (getD t i 0) ≡ false → badFrom n (place begun) (drop i t) ≡ n
-  bad-foreign e k = ap (badFrom n (place begun)) (drop-step t i h) ∙ bad-byte n (place begun) _ _ e k
-
   -- the text ends behind a byte that closes no line
   pub bad-last : (getD t i 0 ≡ 10 → ⊥) → length t ≤ i + 1 → badFrom n (place begun) (drop i t) ≡ n
   unfolding badFrom
@@ -81,20 +77,32 @@ module _ (n : ℕ) (begun : Bool) (t : List ℕ) (i : ℕ) (h : i < length t) wh
       go true k = bad-digit n begun (getD t i 0) [] k
       go false k = bad-byte n (place begun) (getD t i 0) [] e k
 
-  -- a pair
-  module _ (more : i + 1 < length t) (k : isDigit (getD t i 0) ≡ true) where
-    two : badFrom n (place begun) (drop i t) ≡ badFrom n odd (getD t (i + 1) 0 ∷ drop (i + 1 + 1) t)
-    two =
+  -- two bytes more
+  module _ (more : i + 1 < length t) where
+    second : isDigit (getD t i 0) ≡ true → badFrom n (place begun) (drop i t) ≡ badFrom n odd (getD t (i + 1) 0 ∷ drop (i + 1 + 1) t)
+    second k =
         ap (badFrom n (place begun)) (drop-step t i h)
         ∙ bad-digit n begun (getD t i 0) (drop (i + 1) t) k
         ∙ ap (badFrom n odd) (drop-step t (i + 1) more)
 
-    pub bad-pair : isDigit (getD t (i + 1) 0) ≡ true → badFrom n (place begun) (drop i t) ≡ badFrom n even (drop (i + 1 + 1) t)
-    bad-pair m = two ∙ bad-second n _ _ m
+    -- that are a pair
+    pub bad-pair : (isDigit (getD t i 0) && isDigit (getD t (i + 1) 0)) ≡ true
+        → badFrom n (place begun) (drop i t) ≡ badFrom n even (drop (i + 1 + 1) t)
+    bad-pair e = go (isDigit (getD t i 0)) refl e
+      where
+        go : (d : Bool) → isDigit (getD t i 0) ≡ d → (d && isDigit (getD t (i + 1) 0)) ≡ true
+            → badFrom n (place begun) (drop i t) ≡ badFrom n even (drop (i + 1 + 1) t)
+        go true k m = second k ∙ bad-second n _ _ m
+        go false k m = absurd (false≢true m)
 
-    -- whose second is no digit
-    pub bad-half : isDigit (getD t (i + 1) 0) ≡ false → badFrom n (place begun) (drop i t) ≡ n
-    bad-half m = two ∙ bad-odd n _ _ m
+    -- that are none
+    pub bad-no-pair : (getD t i 0 ≡ 10 → ⊥) → (isDigit (getD t i 0) && isDigit (getD t (i + 1) 0)) ≡ false
+        → badFrom n (place begun) (drop i t) ≡ n
+    bad-no-pair f e = go (isDigit (getD t i 0)) refl e
+      where
+        go : (d : Bool) → isDigit (getD t i 0) ≡ d → (d && isDigit (getD t (i + 1) 0)) ≡ false → badFrom n (place begun) (drop i t) ≡ n
+        go true k m = second k ∙ bad-odd n _ _ m
+        go false k m = ap (badFrom n (place begun)) (drop-step t i h) ∙ bad-byte n (place begun) _ _ f k
 
 -- the end of the text, in a line that has begun and in one that has not
 pub bad-open : (n : ℕ) (begun : Bool) (t : List ℕ) (i : ℕ) → length t ≤ i → begun ≡ true → badFrom n (place begun) (drop i t) ≡ n

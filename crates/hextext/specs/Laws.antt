@@ -13,7 +13,8 @@ use lib.Seq.{drop-cons, drop-drop}
 use lib.Dec.{eqb, leb}
 use borrow.Author.Tests.{eq-eqb, ne-eqb, lt-ltb, le-ltb, le-leb, lt-leb}
 use Rattle.slices.specs.Every.{Every}
-use Rattle.hextext.specs.Text.{isDigit, value, pair, Place, first, afterDigit, mayClose, mayEnd, badFrom, badLine, lineBytes, lineSize, lines, onFirst}
+use Rattle.hextext.specs.Text.{isDigit, value, pair, Place, first, afterDigit, mayClose, mayEnd, badFrom, badLine, lineBytes}
+use Rattle.hextext.specs.Text.{lineSize, lines, onFirst}
 use Rattle.hextext.specs.Written.{digitOf, pairsOf, lineText}
 
 -- the value of a digit 0-9 and of a digit A-F
@@ -262,7 +263,14 @@ bad-from-most n p (b ∷ t) =
     go (eqb b 10) (mayClose p) (isDigit b) (bad-from-most (n + 1) first t) (bad-from-most n (afterDigit p) t)
   where
     go : (x y z : Bool) → badFrom (n + 1) first t ≤ n + 1 + length t → badFrom n (afterDigit p) t ≤ n + length t
-        → elim x [ true ↦ elim y [ true ↦ badFrom (n + 1) first t | false ↦ n ] | false ↦ elim z [ true ↦ badFrom n (afterDigit p) t | false ↦ n ] ]
+        → elim x [
+          | true ↦ elim y [ true ↦ badFrom (n + 1) first t | false ↦ n ]
+          | false ↦ elim z [
+            | true ↦ badFrom n
+                (afterDigit p) t
+            | false ↦ n
+          ]
+        ]
         ≤ n + suc (length t)
     go true true z h k = omega arith
     go true false z h k = omega arith

@@ -1,6 +1,7 @@
 // Lines of hexadecimal pairs, each closed by byte 0A: finding the first bad line of a text, reading the next line, writing a line.
 // Texts and lines are of any length.
 ghost use mathlib.Core.Path.{_≡_};
+ghost use mathlib.Core.Bool.{_&&_};
 ghost use Prim.Native.Nat.{_<_};
 ghost use Rattle.hextext.specs.Text.{isDigit, value, pair, badLine, NextLine};
 ghost use Rattle.hextext.specs.Written.{digitOf, LineWritten};
@@ -19,6 +20,16 @@ fn is_digit(b: u8) -> bool
         return false;
     }
     b <= 70
+}
+
+// Whether two bytes are digits.
+fn is_pair(first: u8, second: u8) -> bool
+    ensures { λ r. ⌜ r ≡ (isDigit first && isDigit second) ⌝ }
+{
+    if is_digit(first) {
+        return is_digit(second);
+    }
+    false
 }
 
 // The value of a digit 0-9 A-F.
@@ -63,12 +74,8 @@ pub fn bad_line(text: &[u8]) -> usize
             }
             let second = text[i];
             i += 1;
-            if is_digit(first) {
-                if is_digit(second) {
-                    begun = true;
-                } else {
-                    return line;
-                }
+            if is_pair(first, second) {
+                begun = true;
             } else {
                 return line;
             }

@@ -13,7 +13,8 @@ use Rattle.playing.specs.declared.Latest.{Latest}
 use Rattle.playing.specs.declared.OnsetStep.{OnsetStep}
 use Rattle.playing.specs.declared.Onsets.{Onsets}
 use Rattle.sheet.specs.Sheet.{Onset, Grammar, Playing, unitOf, barOf, inBar}
-use Rattle.sheet.specs.Reading.{byte, four, lineOf, onsetRefusal, onsetOf, withOnset, inOnsets, refusal, after, readLines, refused, accepted}
+use Rattle.sheet.specs.Reading.{byte, four, lineOf, onsetRefusal, onsetOf, withOnset, inOnsets, refusal, after, readLines, refused}
+use Rattle.sheet.specs.Reading.{accepted}
 use Rattle.sheet.specs.Held.{held, units, playingTable, noGrammar, noPlaying, micros}
 use Rattle.playing.specs.Steps.{latestOf}
 use Rattle.sheet.specs.SoFar.{GoodSoFar}
@@ -58,7 +59,8 @@ onsets-none t at n bars d table w l good e =
       rest = λ g. refl;
     }
 
-module _ {t : List ℕ} {at n bars d : ℕ} {table : PlayingTable} {s : Latest} {at′ n′ k : ℕ} (h : OnsetsSoFar t at n bars d table s at′ n′ k) where
+module _ {t : List ℕ} {at n bars d : ℕ} {table : PlayingTable} {s : Latest} {at′ n′ k : ℕ}
+    (h : OnsetsSoFar t at n bars d table s at′ n′ k) where
   abbrev p : Playing
   p = h .playing
 
@@ -138,7 +140,8 @@ module _ {t : List ℕ} {at n bars d : ℕ} {table : PlayingTable} {s : Latest} 
     onsets-missing e = ended ∙ end-without g d p (h .last) n′ (sym (h .count) ∙ e)
 
     -- after it
-    pub onsets-done : (k ≡ 0 → ⊥) → readLines (inOnsets g d (noPlaying bars) 0) n (lines (drop at t)) ≡ accepted d (record { grammar = g; playing = p })
+    pub onsets-done : (k ≡ 0 → ⊥) → readLines (inOnsets g d (noPlaying bars) 0) n (lines (drop at t)) ≡ accepted d
+        (record { grammar = g; playing = p })
     onsets-done f = ended ∙ end-with g d p (h .last) n′ (λ e. f (h .count ∙ e))
 
 -- what is returned where a line is refused, or none is left

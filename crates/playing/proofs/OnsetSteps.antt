@@ -107,7 +107,8 @@ run-more d p l =
 -- the refusal of a `4E` line, and of another
 module _ (g : Grammar) (d : ℕ) (p : Playing) (last : ℕ) (l : Line) where
   pub onset-line : byte l 0 ≡ 0x4E
-      → refusal (inOnsets g d p last) l ≡ onsetRefusal (p .bars) d last (length (p .onsets)) (inBar (barOf (unitOf d (four l 1))) (p .onsets)) l
+      → refusal (inOnsets g d p last) l ≡ onsetRefusal (p .bars) d last (length (p .onsets))
+      (inBar (barOf (unitOf d (four l 1))) (p .onsets)) l
   unfolding refusal
   onset-line e = simp (eq-eqb (byte l 0) 0x4E e)
 
@@ -120,7 +121,8 @@ module _ (g : Grammar) (d : ℕ) (p : Playing) (last : ℕ) (l : Line) where
   stopped r k e q f = record { number = e ∙ sym q; unit = λ z. absurd (f (sym e ∙ z)); latest = λ z. absurd (f (sym e ∙ z)) }
 
   -- the numbers that the code holds are those of the playing
-  module _ (good : GoodSoFar d p last) (bars n : ℕ) (s : Latest) (eb : bars ≡ p .bars) (en : n ≡ length (p .onsets)) (es : s ≡ latestOf d p last) where
+  module _ (good : GoodSoFar d p last) (bars n : ℕ) (s : Latest) (eb : bars ≡ p .bars) (en : n ≡ length (p .onsets))
+      (es : s ≡ latestOf d p last) where
     same-refusal : onsetRefusal bars d (s .time .0) n 0 l ≡ onsetRefusal (p .bars) d last (length (p .onsets)) 0 l
     same-refusal = λ j. onsetRefusal (eb j) d (es j .time .0) (en j) 0 l
 

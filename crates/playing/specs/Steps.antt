@@ -3,13 +3,14 @@ use Prim.Native.Nat.{ℕ}
 use mathlib.Core.Path.{_≡_}
 use mathlib.Core.Bool.{cond}
 use mathlib.Core.List.{List}
-use lib.ListN.{drop}
+use lib.ListN.{length, drop}
 use lib.Dec.{eqb}
 use Rattle.hextext.specs.Text.{lines}
 use Rattle.sheet.specs.declared.line.Line.{Line}
 use Rattle.sheet.specs.Sheet.{Grammar, Playing, Sheet, unitOf, barOf, inBar}
 use Rattle.sheet.specs.Reading.{inOnsets, refusal, readLines, withOnset, onsetOf, four, accepted, refused}
 use Rattle.sheet.specs.Held.{micros, playingTable, noPlaying}
+use Rattle.sheet.specs.SoFar.{GoodSoFar}
 use Rattle.playing.specs.declared.Latest.{Latest}
 use Rattle.playing.specs.declared.OnsetStep.{OnsetStep}
 use Rattle.playing.specs.declared.Onsets.{Onsets}
@@ -32,6 +33,12 @@ pub record OnsetStepped (g : Grammar) (d : ℕ) (p : Playing) (last : ℕ) (l : 
   pub number : r .number ≡ refusal (inOnsets g d p last) l
   pub unit : r .number ≡ 0 → r .unit .0 ≡ unitOf d (four l 1)
   pub latest : r .number ≡ 0 → r .latest ≡ latestOf d (withOnset p (onsetOf d l)) (four l 1)
+
+-- the same of any good playing whose numbers are those handed over
+abbrev pub OnsetStepOf : (bars d count : ℕ) → Latest → Line → OnsetStep → Type 0
+OnsetStepOf bars d count s l r =
+    (g : Grammar) (p : Playing) (last : ℕ) → GoodSoFar d p last → bars ≡ p .bars → count ≡ length (p .onsets) → s ≡ latestOf d p last
+    → OnsetStepped g d p last l r
 
 -- the onsets are read, up to the end of the text: the outcome is a sheet
 pub record OnsetsDone (t : List ℕ) (at n : ℕ) (g : Grammar) (bars d : ℕ) (r : Onsets) : Type 0 where

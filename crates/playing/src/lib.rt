@@ -2,11 +2,11 @@
 ghost use mathlib.Core.Path.{_≡_};
 ghost use Prim.Native.Nat.{ℕ, _+_, _*_, _≤_, _<_};
 ghost use lib.ListN.{length};
-ghost use Rattle.sheet.specs.Sheet.{Grammar, Playing};
+ghost use Rattle.sheet.specs.Sheet.{Grammar};
 ghost use Rattle.sheet.specs.Reading.{onsetRefusal};
 ghost use Rattle.sheet.specs.Held.{playingTable, noPlaying};
 ghost use Rattle.sheet.specs.SoFar.{GoodSoFar};
-ghost use Rattle.playing.specs.Steps.{runIn, latestOf, OnsetStepped, OnsetsRead};
+ghost use Rattle.playing.specs.Steps.{runIn, OnsetStepOf, OnsetsRead};
 use sheet::Line;
 use sheet::Micros;
 use sheet::PlayingTable;
@@ -104,7 +104,7 @@ fn refused_step(number: u8, latest: Latest) -> OnsetStep
 // A line after the `45` line and `count` onsets.
 fn onset_step(bars: u8, duration: Micros, count: usize, latest: Latest, l: Line) -> OnsetStep
     requires { ⌜ bars ≤ 64 ⌝ }
-    ensures { λ r. ⌜ ((g : Grammar) (p : Playing) (last : ℕ) → GoodSoFar (duration .0) p last → bars ≡ p .bars → count ≡ length (p .onsets) → latest ≡ latestOf (duration .0) p last → OnsetStepped g (duration .0) p last l r) ⌝ }
+    ensures { λ r. ⌜ OnsetStepOf bars (duration .0) count latest l r ⌝ }
 {
     if l.bytes[0] != 0x4E {
         return refused_step(3, latest);

@@ -11,7 +11,8 @@ use lib.Dec.{ltb}
 use Rattle.hextext.specs.Text.{badLine, lines}
 use Rattle.hextext.specs.Laws.{bad-line-most, lines-most}
 use Rattle.sheet.specs.Sheet.{Sheet}
-use Rattle.sheet.specs.Reading.{lineOf, Progress, nothing, inRules, inOnsets, refusal, after, Outcome, refused, accepted, atEnd, readLines, readSheet}
+use Rattle.sheet.specs.Reading.{lineOf, Progress, nothing, inRules, inOnsets, refusal, after, Outcome, refused, accepted, atEnd}
+use Rattle.sheet.specs.Reading.{readLines, readSheet}
 use Rattle.sheet.specs.Laws.{read-on, read-stop, too-long, ill-formed, well-formed}
 
 -- a refusal's number is 1 or more, and its line at most m

@@ -10,7 +10,9 @@ use borrow.Author.Tests.{leb-true}
 use Rattle.slices.specs.Pad.{getD-pad}
 use Rattle.sheet.specs.declared.line.Line.{Line}
 use Rattle.sheet.specs.Sheet.{Grammar, Onset, Playing, unitOf, barOf, inBar}
-use Rattle.sheet.specs.Reading.{byte, two, four, allBelow, bytesFrom, lineOf, headRefusal, headOf, divisionRefusal, divisionOf, leafRefusal, leafOf, withRule, playingRefusal, playingOf, onsetRefusal, onsetOf, withOnset, demand, Progress, nothing, inRules, inOnsets, rulesRefusal, refusal, after}
+use Rattle.sheet.specs.Reading.{byte, two, four, allBelow, bytesFrom, lineOf, headRefusal, headOf, divisionRefusal, divisionOf}
+use Rattle.sheet.specs.Reading.{leafRefusal, leafOf, withRule, playingRefusal, playingOf, onsetRefusal, onsetOf, withOnset}
+use Rattle.sheet.specs.Reading.{demand, Progress, nothing, inRules, inOnsets, rulesRefusal, refusal, after}
 use Rattle.sheet.specs.Held.{held}
 use Rattle.sheet.specs.Laws.{demand-zero, division-passed}
 
@@ -65,7 +67,8 @@ module _ (b : List ℕ) where
   division-held : (q n : ℕ) → divisionRefusal q n h ≡ divisionRefusal q n l
   unfolding divisionRefusal
   division-held q n =
-      (λ j. demands-of q n (count-held j) (byte-held 4 (omega arith) j) (byte-held 1 (omega arith) j) (bytesFrom (byte-held 4 (omega arith) j) 5 h))
+      (λ j. demands-of q n (count-held j) (byte-held 4 (omega arith) j) (byte-held 1 (omega arith) j)
+      (bytesFrom (byte-held 4 (omega arith) j) 5 h))
       ∙ go (leb (byte l 4) 8) refl
     where
       go : (t : Bool) → leb (byte l 4) 8 ≡ t
@@ -109,9 +112,20 @@ module _ (b : List ℕ) where
   unfolding refusal rulesRefusal
   refusal-held nothing = rw (byte-held 0 (omega arith), head-held)
   refusal-held (inRules g) =
-      rw (byte-held 0 (omega arith), division-held (g .nonterminals) (length (g .rules)), leaf-held (g .nonterminals) (length (g .rules)), playing-held)
+      rw (
+        byte-held 0 (omega arith),
+        division-held (g .nonterminals) (length (g .rules)),
+        leaf-held (g .nonterminals)
+            (length (g .rules)),
+        playing-held,
+      )
   refusal-held (inOnsets g d p last) =
-      rw (byte-held 0 (omega arith), four-held 1 (omega arith), onset-held (p .bars) d last (length (p .onsets)) (inBar (barOf (unitOf d (four l 1))) (p .onsets)))
+      rw (
+        byte-held 0 (omega arith),
+        four-held 1 (omega arith),
+        onset-held (p .bars) d last (length (p .onsets))
+            (inBar (barOf (unitOf d (four l 1))) (p .onsets)),
+      )
 
   pub after-held : (r : Progress) → refusal r l ≡ 0 → after r h ≡ after r l
   unfolding after refusal rulesRefusal
@@ -123,9 +137,13 @@ module _ (b : List ℕ) where
       other = cond (eqb (byte l 0) 0x4C) (inRules (withRule g (leafOf l))) (inOnsets g (four l 2) (playingOf l) 0)
 
       go : (t : Bool)
-          → cond t (divisionRefusal (g .nonterminals) (length (g .rules)) l) (cond (eqb (byte l 0) 0x4C) (leafRefusal (g .nonterminals) (length (g .rules)) l) (cond (eqb (byte l 0) 0x45) (demand (ltb 0 (length (g .rules))) 3 (playingRefusal l)) 3)) ≡ 0
-          → cond t (inRules (withRule g (divisionOf h))) (cond (eqb (byte l 0) 0x4C) (inRules (withRule g (leafOf l))) (inOnsets g (four l 2) (playingOf l) 0))
-          ≡ cond t (inRules (withRule g (divisionOf l))) (cond (eqb (byte l 0) 0x4C) (inRules (withRule g (leafOf l))) (inOnsets g (four l 2) (playingOf l) 0))
+          → cond t (divisionRefusal (g .nonterminals) (length (g .rules)) l)
+          (cond (eqb (byte l 0) 0x4C) (leafRefusal (g .nonterminals) (length (g .rules)) l)
+          (cond (eqb (byte l 0) 0x45) (demand (ltb 0 (length (g .rules))) 3 (playingRefusal l)) 3)) ≡ 0
+          → cond t (inRules (withRule g (divisionOf h))) (cond (eqb (byte l 0) 0x4C) (inRules (withRule g (leafOf l)))
+          (inOnsets g (four l 2) (playingOf l) 0))
+          ≡ cond t (inRules (withRule g (divisionOf l))) (cond (eqb (byte l 0) 0x4C) (inRules (withRule g (leafOf l)))
+          (inOnsets g (four l 2) (playingOf l) 0))
       go true z = rw (division-of-held (division-passed (g .nonterminals) (length (g .rules)) l z .most))
       go false z = refl
   after-held (inOnsets g d p last) e = rw (onset-of-held d, four-held 1 (omega arith))

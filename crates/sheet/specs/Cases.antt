@@ -18,19 +18,23 @@ headS = textOf "4501001E8480\n"
 abbrev pub S : List ℕ
 S = grammarS ++ headS ++ textOf "4E000000003C40\n4E0010C8E03E40\n"
 
--- S means the sheet that document 01 says it means
-pub S-means : readSheet S ≡ accepted 2_000_000 (record {
-  grammar = record {
-    nonterminals = 2;
-    start = 0;
-    multiplier = 10;
-    rules = leaf 0 1 1 ∷ division 0 6 (1 ∷ 1 ∷ []) ∷ leaf 1 2 0 ∷ leaf 1 1 1 ∷ [];
-  };
-  playing = record {
-    bars = 1;
-    onsets = record { unit = 0; pitch = 60 } ∷ record { unit = 11088; pitch = 62 } ∷ [];
-  };
-})
+-- the sheet that S means, and that it does
+abbrev pub sheetS : Sheet
+sheetS =
+    record {
+      grammar = record {
+        nonterminals = 2;
+        start = 0;
+        multiplier = 10;
+        rules = leaf 0 1 1 ∷ division 0 6 (1 ∷ 1 ∷ []) ∷ leaf 1 2 0 ∷ leaf 1 1 1 ∷ [];
+      };
+      playing = record {
+        bars = 1;
+        onsets = record { unit = 0; pitch = 60 } ∷ record { unit = 11088; pitch = 62 } ∷ [];
+      };
+    }
+
+pub S-means : readSheet S ≡ accepted 2_000_000 sheetS
 unfolding readSheet
 S-means = refl
 

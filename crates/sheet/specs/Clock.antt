@@ -2,7 +2,8 @@
 use Prim.Native.Nat.{ℕ, _+_, _*_, _/_, _^_, _≤_, _<_}
 use mathlib.Core.Path.{_≡_, refl, sym, ap}
 use native.Mathlib.Omega.{arith}
-use native.Mathlib.Nat.{mul-le-mul, mul-lt-mul-of-pos-right, mul-right-comm, div-lt-iff-lt-mul, le-div-iff-mul-le, div-mul-le-self, le-trans, zero-div}
+use native.Mathlib.Nat.{mul-le-mul, mul-lt-mul-of-pos-right, mul-right-comm, div-lt-iff-lt-mul, le-div-iff-mul-le, div-mul-le-self}
+use native.Mathlib.Nat.{le-trans, zero-div}
 use Rattle.sheet.specs.Sheet.{unitOf, barOf}
 
 -- B × duration fits 64 bits

@@ -1,4 +1,5 @@
--- Every accepted text means a good sheet (`good`): what has been read is good at each step, and stays so with each line that is not refused.
+-- Every accepted text means a good sheet (`good`): what has been read is good at each step, and stays so with each line that is not
+-- refused.
 use Prim.Native.Nat.{ℕ, zero, suc, _+_, _*_, _<_, _≤_}
 use mathlib.Core.Path.{_≡_, refl, sym, ap, _∙_, subst}
 use mathlib.Core.Bool.{Bool, true, false, cond, _&&_, false≢true}
@@ -14,11 +15,15 @@ use Rattle.hextext.specs.Text.{lines, badLine}
 use Rattle.hextext.specs.Laws.{lines-small}
 use Rattle.sheet.specs.declared.line.Line.{Line}
 use Rattle.sheet.specs.Sheet.{Rule, division, leaf, Onset, Grammar, Playing, Sheet, unitOf, barOf, inBar, barUnits}
-use Rattle.sheet.specs.Reading.{byte, two, four, allBelow, bytesFrom, lineOf, headRefusal, headOf, divisionRefusal, divisionOf, leafRefusal, leafOf, withRule, playingRefusal, playingOf, onsetRefusal, onsetOf, withOnset, Progress, nothing, inRules, inOnsets, rulesRefusal, refusal, after, Outcome, refused, accepted, demand, atEnd, readLines, readSheet}
+use Rattle.sheet.specs.Reading.{byte, two, four, allBelow, bytesFrom, lineOf, headRefusal, headOf, divisionRefusal, divisionOf}
+use Rattle.sheet.specs.Reading.{leafRefusal, leafOf, withRule, playingRefusal, playingOf, onsetRefusal, onsetOf, withOnset}
+use Rattle.sheet.specs.Reading.{Progress, nothing, inRules, inOnsets, rulesRefusal, refusal, after, Outcome, refused, accepted}
+use Rattle.sheet.specs.Reading.{demand, atEnd, readLines, readSheet}
 use Rattle.sheet.specs.Clock.{unit-lt, unit-mono}
 use Rattle.sheet.specs.Good.{Rising, GoodRule, GoodRules, GoodOnsets, Good}
 use Rattle.sheet.specs.SoFar.{GoodSoFar, GoodProgress}
-use Rattle.sheet.specs.Laws.{length-bytes, demand-zero, cond-zero, head-passed, division-passed, leaf-passed, playing-passed, onset-passed, read-on, read-stop, too-long, ill-formed, well-formed}
+use Rattle.sheet.specs.Laws.{length-bytes, demand-zero, cond-zero, head-passed, division-passed, leaf-passed, playing-passed}
+use Rattle.sheet.specs.Laws.{onset-passed, read-on, read-stop, too-long, ill-formed, well-formed}
 
 -- the bytes of a line are below 256, and a number of two bytes is below 65,536
 abbrev pub Small : Line → Type 0
@@ -103,7 +108,8 @@ unfolding inBar
 in-bar-more b [] o = omega arith
 in-bar-more b (x ∷ os) o = omega (arith, in-bar-more b os o)
 
-rising-more : (m : ℕ) (os : List Onset) (o : Onset) → Rising m os → m ≤ o .unit → Every (λ (x : Onset). x .unit ≤ o .unit) os → Rising m (os ++ (o ∷ []))
+rising-more : (m : ℕ) (os : List Onset) (o : Onset) → Rising m os → m ≤ o .unit → Every (λ (x : Onset). x .unit ≤ o .unit) os
+    → Rising m (os ++ (o ∷ []))
 rising-more m [] o r h e = (h, tt)
 rising-more m (x ∷ os) o r h e = (r .0, rising-more (x .unit) os o (r .1) (e .0) (e .1))
 
@@ -168,8 +174,12 @@ pub good-after : (r : Progress) (l : Line) → Small l → GoodProgress r → re
 unfolding refusal rulesRefusal after
 good-after nothing l h g e = good-head l h (cond-zero (eqb (byte l 0) 0x47) (headRefusal l) 2 e .1)
 good-after (inRules g) l h k e = good-rules-line g l h k (eqb (byte l 0) 0x44) (eqb (byte l 0) 0x4C) (eqb (byte l 0) 0x45) e
-good-after (inOnsets g d p last) l h k e =
-    (k .0, k .1, good-onset d p last l (k .2) (cond-zero (eqb (byte l 0) 0x4E) (onsetRefusal (p .bars) d last (length (p .onsets)) (inBar (barOf (unitOf d (four l 1))) (p .onsets)) l) 2 e .1))
+good-after (inOnsets g d p last) l h k e = (
+  k .0,
+  k .1,
+  good-onset d p last l (k .2) (cond-zero (eqb (byte l 0) 0x4E)
+      (onsetRefusal (p .bars) d last (length (p .onsets)) (inBar (barOf (unitOf d (four l 1))) (p .onsets)) l) 2 e .1),
+)
 
 -- an outcome is not both
 isAccepted : Outcome → ℕ
@@ -203,7 +213,8 @@ good-end (inOnsets g d p last) n h = go (ltb 0 (length (p .onsets))) refl
           some-onset = ltb-true 0 (length (p .onsets)) q;
         }
 
-good-lines : (r : Progress) (n : ℕ) (ls : List (List ℕ)) → Every (Every (λ (x : ℕ). x < 256)) ls → GoodProgress r → Accepted (readLines r n ls)
+good-lines : (r : Progress) (n : ℕ) (ls : List (List ℕ)) → Every (Every (λ (x : ℕ). x < 256)) ls → GoodProgress r
+    → Accepted (readLines r n ls)
 unfolding readLines
 good-lines r n [] s h = good-end r n h
 good-lines r n (b ∷ ls) s h = go (refusal r (lineOf b)) refl (λ g. good-lines (after r (lineOf b)) (n + 1) ls (s .1) g)

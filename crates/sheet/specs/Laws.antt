@@ -10,7 +10,9 @@ use borrow.Author.Tests.{le-leb, lt-leb, le-ltb, lt-ltb, leb-true, ltb-true, eqb
 use Rattle.hextext.specs.Text.{badLine, lines}
 use Rattle.sheet.specs.declared.line.Line.{Line}
 use Rattle.sheet.specs.Sheet.{Grammar, Playing}
-use Rattle.sheet.specs.Reading.{demand, byte, two, four, allBelow, bytesFrom, lineOf, headRefusal, divisionRefusal, leafRefusal, playingRefusal, onsetRefusal, Progress, nothing, inRules, inOnsets, refusal, after, Outcome, refused, accepted, atEnd, readLines, readFormed, readSheet}
+use Rattle.sheet.specs.Reading.{demand, byte, two, four, allBelow, bytesFrom, lineOf, headRefusal, divisionRefusal, leafRefusal}
+use Rattle.sheet.specs.Reading.{playingRefusal, onsetRefusal, Progress, nothing, inRules, inOnsets, refusal, after, Outcome}
+use Rattle.sheet.specs.Reading.{refused, accepted, atEnd, readLines, readFormed, readSheet}
 
 -- a demand that gives 0 is met, and what comes after it gives 0
 pub demand-zero : (t : Bool) (r k : ℕ) → demand t (suc r) k ≡ 0 → (t ≡ true) × (k ≡ 0)
@@ -146,7 +148,8 @@ pub end-in-rules : (g : Grammar) (n : ℕ) → readLines (inRules g) n [] ≡ re
 unfolding readLines atEnd
 end-in-rules g n = refl
 
-pub end-without : (g : Grammar) (d : ℕ) (p : Playing) (last n : ℕ) → length (p .onsets) ≡ 0 → readLines (inOnsets g d p last) n [] ≡ refused 3 n
+pub end-without : (g : Grammar) (d : ℕ) (p : Playing) (last n : ℕ) → length (p .onsets) ≡ 0
+    → readLines (inOnsets g d p last) n [] ≡ refused 3 n
 unfolding readLines atEnd
 end-without g d p last n e = simp (le-ltb 0 (length (p .onsets)) (omega arith))
 

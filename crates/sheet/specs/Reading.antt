@@ -51,7 +51,8 @@ headRefusal l =
 unfoldable pub headOf : Line → Grammar
 headOf l = record { nonterminals = byte l 1; start = byte l 2; multiplier = two l 3; rules = [] }
 
--- `44` division, 5 + k bytes: kind, head, weight (2 bytes, any), k (2 to 8), k nonterminals; q is Q, `before` the number of rules before it.
+-- `44` division, 5 + k bytes: kind, head, weight (2 bytes, any), k (2 to 8), k nonterminals; q is Q, `before` the number of rules before
+-- it.
 -- "Fewer than 5 bytes (4), then k (5), then the exact count (4), then other fields (5)"; rule 65 (8)
 unfoldable pub divisionRefusal : (q before : ℕ) → Line → ℕ
 divisionRefusal q before l =
@@ -95,7 +96,8 @@ playingRefusal l =
 unfoldable pub playingOf : Line → Playing
 playingOf l = record { bars = byte l 1; onsets = [] }
 
--- `4E` onset, 7 bytes: kind, time in microseconds (4), pitch (0 to 127), velocity (1 to 127); time below the one before, `last` (6); time at
+-- `4E` onset, 7 bytes: kind, time in microseconds (4), pitch (0 to 127), velocity (1 to 127); time below the one before, `last` (6);
+-- time at
 -- or past B × duration (7); onset 513 (8), onset 33 of a bar (8). `before` is the number of onsets before it, `here` of those in its bar
 unfoldable pub onsetRefusal : (bars duration last before here : ℕ) → Line → ℕ
 onsetRefusal bars duration last before here l =

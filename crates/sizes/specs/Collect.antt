@@ -13,7 +13,8 @@ use borrow.Author.Tests.{eqb-true}
 use Rattle.slices.specs.Every.{Every, every-more}
 use Rattle.sheet.specs.Sheet.{Rule, barUnits}
 use Rattle.sizes.specs.Sizes.{hasArity, Length, whole, part, member, Once, someArity, reached, collect}
-use Rattle.sizes.specs.Members.{by-or, and-both, not-true-false, member-here, member-there, member-cases, no-member, member-front, member-last, member-more, every-member, once-more}
+use Rattle.sizes.specs.Members.{by-or, and-both, not-true-false, member-here, member-there, member-cases, no-member}
+use Rattle.sizes.specs.Members.{member-front, member-last, member-more, every-member, once-more}
 use Rattle.sizes.specs.Divisors.{Falls}
 
 module _ (f : ℕ → Bool) where

@@ -12,7 +12,8 @@ use borrow.Author.Tests.{eqb-true}
 use Rattle.slices.specs.Every.{Every}
 use Rattle.sheet.specs.Sheet.{Rule, division, leaf, Grammar, Playing, inBar}
 use Rattle.sheet.specs.Good.{GoodRule, GoodRules, GoodOnsets}
-use Rattle.sizes.specs.Sizes.{largest, mostInBar, hasArity, Length, whole, part, member, Listed, divisors, reached, collect, lengthsOf, lengthCount}
+use Rattle.sizes.specs.Sizes.{largest, mostInBar, hasArity, Length, whole, part, member, Listed, divisors, reached, collect}
+use Rattle.sizes.specs.Sizes.{lengthsOf, lengthCount}
 use Rattle.sizes.specs.Members.{by-or, member-here, no-member, every-member, once-shorter}
 use Rattle.sizes.specs.Divisors.{divides-member, positive-right, divisors-fall, divisors-first, divisors-length, falls-once}
 use Rattle.sizes.specs.Collect.{collect-keeps, collect-lengths, collect-once, collect-part, length-collect, first-collect}

@@ -7,8 +7,8 @@ ghost use Rattle.slices.specs.Pad.{pad};
 ghost use Rattle.sheet.specs.Sheet.{Grammar, Playing, Sheet};
 ghost use Rattle.sheet.specs.Held.{grammarTable, playingTable};
 ghost use Rattle.sheet.specs.Good.{GoodRules, GoodOnsets, Good};
-ghost use Rattle.sizes.specs.Sizes.{divisors, member, reached, lengthsOf, mostInBar, treeBytes, workCells};
-ghost use Rattle.sizes.specs.Held.{arityFlags, lengthTable};
+ghost use Rattle.sizes.specs.Sizes.{divisors, member, lengthsOf, mostInBar, treeBytes, workCells};
+ghost use Rattle.sizes.specs.Held.{arityFlags, lengthTable, ReachedOf};
 use sheet::GrammarTable;
 use sheet::PlayingTable;
 use sheet::Rule;
@@ -175,7 +175,7 @@ fn among(cells: &[u32; 84], count: usize, x: u32) -> bool
 // Whether d is the whole bar, or some arity times d is among the first `count` cells.
 fn is_reached(flags: [bool; 9], cells: &[u32; 84], count: usize, d: u32) -> bool
     requires { ⌜ (count ≤ 84) × (d ≤ 20160) ⌝ }
-    ensures { λ r. ⌜ ((h : Grammar) (xs : List ℕ) → flags ≡ arityFlags (h .rules) → length xs ≡ count → now (cells .entry) ≡ pad 84 0 xs → r ≡ reached (h .rules) xs d) ⌝ }
+    ensures { λ r. ⌜ ReachedOf flags (now (cells .entry)) count d r ⌝ }
 {
     if d == 20160 {
         return true;

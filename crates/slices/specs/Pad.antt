@@ -20,7 +20,8 @@ module _ {A : Type 0} where
   length-pad n z l = length-over l (replicate n z) ∙ length-replicate n z
 
   -- one element more, at the next place
-  pub pad-more : (n : ℕ) (z : A) (l xs : List A) (k : ℕ) (a : A) → xs ≡ pad n z l → length l ≡ k → k < n → set xs k a ≡ pad n z (l ++ (a ∷ []))
+  pub pad-more : (n : ℕ) (z : A) (l xs : List A) (k : ℕ) (a : A) → xs ≡ pad n z l → length l ≡ k → k < n
+      → set xs k a ≡ pad n z (l ++ (a ∷ []))
   unfolding pad
   pad-more n z l xs k a e q h = rw (e, ← q) (over-more l (replicate n z) a (rw length-replicate (omega arith)))
 

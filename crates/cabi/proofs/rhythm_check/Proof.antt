@@ -17,13 +17,22 @@ mul-result : tie.Need-mul-result
 mul-result c = search needs
 
 cast-result-2 : tie.Need-cast-result-2
-cast-result-2 c = let m = line-small (c .before .before .before .before .args .text .now) (c .before .before .read .result) (c .before .before .read .ensures) in record { fits = omega arith }
+cast-result-2 c =
+    let args = c .before .before .before .before .args in
+    let read = c .before .before .read in
+    let m = line-small (args .text .now) (read .result) (read .ensures) in record { fits = omega arith }
 
 add-result : tie.Need-add-result
-add-result c = let m = line-small (c .before .before .before .before .args .text .now) (c .before .before .read .result) (c .before .before .read .ensures) in record { fits = omega arith }
+add-result c =
+    let args = c .before .before .before .before .args in
+    let read = c .before .before .read in
+    let m = line-small (args .text .now) (read .result) (read .ensures) in record { fits = omega arith }
 
 returns : tie.Need-returns
-returns c = λ j. number-is (c .before .before .before .before .args .text .now) (c .before .before .read .result) (c .before .before .read .ensures) j * 65536 + line-is (c .before .before .before .before .args .text .now) (c .before .before .read .result) (c .before .before .read .ensures) j
+returns c =
+    let args = c .before .before .before .before .args in
+    let read = c .before .before .read in
+    λ j. number-is (args .text .now) (read .result) (read .ensures) j * 65536 + line-is (args .text .now) (read .result) (read .ensures) j
 
 pub rhythm-check-spec : {M : Type 1} → statement M
 rhythm-check-spec =

@@ -9,7 +9,9 @@ read-requires : tie.Need-read-requires
 read-requires c κs = search needs
 
 returns : tie.Need-returns
-returns c = unit-none (c .before .before .before .args .text .now) (c .before .read .result) (c .before .read .ensures) (c .before .before .before .args .i) (c .if1 .taken)
+returns c =
+    let args = c .before .before .before .args in
+    unit-none (args .text .now) (c .before .read .result) (c .before .read .ensures) (args .i) (c .if1 .taken)
 
 mul-unit : tie.Need-mul-unit
 mul-unit c = search needs
@@ -18,7 +20,11 @@ element-copy-out-unit : tie.Need-element-copy-out-unit
 element-copy-out-unit c = search needs
 
 returns-2 : tie.Need-returns-2
-returns-2 c = unit-is (c .before .before .before .before .before .args .text .now) (c .before .before .before .read .result) (c .before .before .before .read .ensures) (c .before .before .before .before .before .args .i) (c .before .before .if1 .left)
+returns-2 c =
+    let args = c .before .before .before .before .before .args in
+    let read = c .before .before .before .read in
+    let if1 = c .before .before .if1 in
+    unit-is (args .text .now) (read .result) (read .ensures) (args .i) (if1 .left)
 
 pub rhythm-onset-unit-spec : {M : Type 1} → statement M
 rhythm-onset-unit-spec =

@@ -9,13 +9,22 @@ read-requires : tie.Need-read-requires
 read-requires c κs = search needs
 
 returns : tie.Need-returns
-returns c = none-refused (c .before .before .before .args .text .now) (c .before .read .result) (c .before .read .ensures) (c .if1 .taken) .1
+returns c =
+    let args = c .before .before .before .args in
+    none-refused (args .text .now) (c .before .read .result) (c .before .read .ensures) (c .if1 .taken) .1
 
 tree-bytes-requires : tie.Need-tree-bytes-requires
-tree-bytes-requires c κs = counts (c .before .before .before .before .args .text .now) (c .before .before .read .result) (c .before .before .read .ensures) .1
+tree-bytes-requires c κs =
+    let args = c .before .before .before .before .args in
+    let read = c .before .before .read in
+    counts (args .text .now) (read .result) (read .ensures) .1
 
 returns-2 : tie.Need-returns-2
-returns-2 c = tree-is (c .before .before .before .before .before .args .text .now) (c .before .before .before .read .result) (c .before .before .before .read .ensures) (c .before .before .if1 .left) _ (c .tree-bytes .ensures)
+returns-2 c =
+    let args = c .before .before .before .before .before .args in
+    let read = c .before .before .before .read in
+    let if1 = c .before .before .if1 in
+    tree-is (args .text .now) (read .result) (read .ensures) (if1 .left) _ (c .tree-bytes .ensures)
 
 pub rhythm-tree-bytes-spec : {M : Type 1} → statement M
 rhythm-tree-bytes-spec = tie.close (tie.spec read-requires returns tree-bytes-requires returns-2)

@@ -31,26 +31,30 @@ add-j c = search needs
 
 returns : tie.Need-returns Inv-loop μ-loop
 returns c =
-    let a = c .before .before .before .before .args in
-    let h = c .before .before .before .loop in
-    sym (h .inv .1 ∙ ap (allBelow (a .q)) (bytes-step (a .t3) (a .k) (h .j) (search needs)) ∙ below-no (a .q) _ _ (c .if1 .taken))
+    let args = c .before .before .before .before .args in
+    let loop = c .before .before .before .loop in
+    sym (loop .inv .1 ∙ ap (allBelow (args .q)) (bytes-step (args .t3) (args .k) (loop .j) (search needs))
+    ∙ below-no (args .q) _ _ (c .if1 .taken))
 
 loop-less : tie.Need-loop-less Inv-loop μ-loop
 loop-less c = search needs
 
 loop-again : tie.Need-loop-again Inv-loop μ-loop
 loop-again c =
-    let a = c .before .before .before .before .args in
-    let h = c .before .before .before .loop in
-    (search needs, h .inv .1 ∙ ap (allBelow (a .q)) (bytes-step (a .t3) (a .k) (h .j) (search needs)) ∙ below-yes (a .q) _ _ (c .if1 .left))
+    let args = c .before .before .before .before .args in
+    let loop = c .before .before .before .loop in (
+      search needs,
+      loop .inv .1 ∙ ap (allBelow (args .q)) (bytes-step (args .t3) (args .k) (loop .j) (search needs))
+          ∙ below-yes (args .q) _ _ (c .if1 .left),
+    )
 
 returns-2 : tie.Need-returns-2 Inv-loop μ-loop
 unfolding allBelow bytesFrom
 returns-2 c =
-    let a = c .before .before .args in
+    let args = c .before .before .args in
     let h = c .before .loop in
-    let e : a .k - h .j ≡ 0 = omega arith in
-    sym (h .inv .1 ∙ ap (λ (n : ℕ). allBelow (a .q) (bytesFrom n (h .j + 5) (a .t3))) e)
+    let e : args .k - h .j ≡ 0 = omega arith in
+    sym (h .inv .1 ∙ ap (λ (n : ℕ). allBelow (args .q) (bytesFrom n (h .j + 5) (args .t3))) e)
 
 pub all-below-spec : {M : Type 1} → statement M
 all-below-spec =

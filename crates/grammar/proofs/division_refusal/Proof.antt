@@ -46,15 +46,45 @@ all-below-requires c κs = search needs
 
 returns-6 : tie.Need-returns-6
 unfolding divisionRefusal
-returns-6 c = search (demands, pass-below, sym (c .before .before .all-below .ensures) ∙ c .before .if6 .taken, c .if7 .taken, c .before .before .before .if5 .left, c .before .before .before .before .if4 .left, c .before .before .before .before .before .if3 .left, c .before .before .before .before .before .before .if2 .left, c .before .before .before .before .before .before .before .before .before .if1 .left) depth 10
+returns-6 c =
+    let if1 = c .before .before .before .before .before .before .before .before .before .if1 in
+    let if2 = c .before .before .before .before .before .before .if2 in
+    let if3 = c .before .before .before .before .before .if3 in
+    let if4 = c .before .before .before .before .if4 in
+    let if5 = c .before .before .before .if5 in
+    let all-below = c .before .before .all-below in
+    search (demands, pass-below, sym (all-below .ensures) ∙ c .before .if6 .taken, c .if7 .taken, if5 .left, if4 .left, if3 .left, if2 .left, if1 .left) depth 10
 
 returns-7 : tie.Need-returns-7
 unfolding divisionRefusal
-returns-7 c = search (demands, pass-below, sym (c .before .before .all-below .ensures) ∙ c .before .if6 .taken, c .if7 .left, c .before .before .before .if5 .left, c .before .before .before .before .if4 .left, c .before .before .before .before .before .if3 .left, c .before .before .before .before .before .before .if2 .left, c .before .before .before .before .before .before .before .before .before .if1 .left) depth 10
+returns-7 c =
+    let if1 = c .before .before .before .before .before .before .before .before .before .if1 in
+    let if2 = c .before .before .before .before .before .before .if2 in
+    let if3 = c .before .before .before .before .before .if3 in
+    let if4 = c .before .before .before .before .if4 in
+    let if5 = c .before .before .before .if5 in
+    let all-below = c .before .before .all-below in
+    search (demands, pass-below, sym (all-below .ensures) ∙ c .before .if6 .taken, c .if7 .left, if5 .left, if4 .left, if3 .left, if2 .left, if1 .left) depth 10
 
 returns-8 : tie.Need-returns-8
 unfolding divisionRefusal
-returns-8 c = search (demands, fail-below, sym (c .before .all-below .ensures) ∙ c .if6 .left, c .before .before .if5 .left, c .before .before .before .if4 .left, c .before .before .before .before .if3 .left, c .before .before .before .before .before .if2 .left, c .before .before .before .before .before .before .before .before .if1 .left) depth 10
+returns-8 c =
+    let if1 = c .before .before .before .before .before .before .before .before .if1 in
+    let if2 = c .before .before .before .before .before .if2 in
+    let if3 = c .before .before .before .before .if3 in
+    let if4 = c .before .before .before .if4 in
+    let if5 = c .before .before .if5 in
+    search (
+      demands,
+      fail-below,
+      sym (c .before .all-below .ensures)
+          ∙ c .if6 .left,
+      if5 .left,
+      if4 .left,
+      if3 .left,
+      if2 .left,
+      if1 .left,
+    ) depth 10
 
 pub division-refusal-spec : {M : Type 1} → statement M
 division-refusal-spec =

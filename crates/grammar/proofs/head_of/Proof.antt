@@ -25,8 +25,10 @@ narrow-requires c κs = search needs
 returns : tie.Need-returns
 unfolding grammarTable headOf
 returns c =
-    let e = c .before .before .before .before .no-grammar .ensures in
-    let l = c .before .before .before .before .before .args .t1 in
+    let args = c .before .before .before .before .before .args in
+    let no-grammar = c .before .before .before .before .no-grammar in
+    let e = no-grammar .ensures in
+    let l = args .t1 in
     λ j. record {
       nonterminals = getD (l .bytes) 1 0;
       start = getD (l .bytes) 2 0;

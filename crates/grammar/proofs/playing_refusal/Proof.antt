@@ -30,11 +30,15 @@ returns-4 c = rw (sym (c .before .four-at .ensures)) (search demands depth 10)
 
 returns-5 : tie.Need-returns-5
 unfolding playingRefusal
-returns-5 c = rw (sym (c .before .before .four-at .ensures)) (search demands depth 10)
+returns-5 c =
+    let four-at = c .before .before .four-at in
+    rw (sym (four-at .ensures)) (search demands depth 10)
 
 returns-6 : tie.Need-returns-6
 unfolding playingRefusal
-returns-6 c = rw (sym (c .before .before .four-at .ensures)) (search demands depth 10)
+returns-6 c =
+    let four-at = c .before .before .four-at in
+    rw (sym (four-at .ensures)) (search demands depth 10)
 
 pub playing-refusal-spec : {M : Type 1} → statement M
 playing-refusal-spec =

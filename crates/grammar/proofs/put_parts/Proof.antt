@@ -48,18 +48,21 @@ loop-less c = search needs
 
 loop-again : tie.Need-loop-again Inv-loop μ-loop
 loop-again c =
-    let a = c .before .before .before .args in
-    let h = c .before .before .loop in
-    (search needs, λ rs q e. cell-more (a .t4) rs (a .n) (h .j) (h .children) q (search needs) (search needs) (h .inv .1 rs q e))
+    let args = c .before .before .before .args in
+    let loop = c .before .before .loop in (
+      search needs,
+      λ rs q e. cell-more (args .t4) rs (args .n) (loop .j) (loop .children) q (search needs) (search needs)
+          (loop .inv .1 rs q e),
+    )
 
 returns : tie.Need-returns Inv-loop μ-loop
 returns c rs q e =
-    let a = c .before .before .args in
+    let args = c .before .before .args in
     let h = c .before .loop in
-    let j : h .j ≡ a .k = omega arith in
+    let j : h .j ≡ args .k = omega arith in
     h .inv .1 rs q e
-    ∙ ap (λ (m : ℕ). pad 512 0 (flat rs ++ bytesFrom m 5 (a .t4))) j
-    ∙ flat-done rs (bytesFrom (a .k) 5 (a .t4)) (omega (arith, length-bytes (a .t4) (a .k) 5))
+    ∙ ap (λ (m : ℕ). pad 512 0 (flat rs ++ bytesFrom m 5 (args .t4))) j
+    ∙ flat-done rs (bytesFrom (args .k) 5 (args .t4)) (omega (arith, length-bytes (args .t4) (args .k) 5))
 
 pub put-parts-spec : {M : Type 1} → statement M
 put-parts-spec =

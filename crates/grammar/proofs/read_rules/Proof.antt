@@ -10,6 +10,7 @@ use lib.ListN.{length}
 use Rattle.hextext.specs.Laws.{line-falls, line-within, line-size-pos}
 use Rattle.sheet.specs.Sheet.{Grammar}
 use Rattle.sheet.specs.Held.{grammarTable}
+use Rattle.grammar.specs.Steps.{arityOf}
 use Rattle.sheet.specs.Good.{GoodRules}
 use Rattle.grammar.proofs.RuleLoop.{RulesSoFar, rules-none, rules-end, rules-stop, rules-done, rules-more, rules-refused, rule-room}
 use Rattle.grammar.proofs.read_rules.Statement.{statement}
@@ -23,6 +24,14 @@ Inv-loop text at line table₀ at₀ line₀ table at' line' =
 abbrev μ-loop : tie.MeasureT-loop
 μ-loop text at line table₀ at₀ line₀ table at' line' = length text - at'
 
+-- where a line is taken as a rule there is room for it
+room : (c : tie.Else2 Inv-loop μ-loop)
+    → (c .before .before .before .before .before .before .before .loop .table .count < 64)
+    × (arityOf (c .before .before .before .before .before .line-at .result .line) ≤ 8)
+room c =
+    let rules-refusal = c .before .before .before .rules-refusal in
+    rule-room _ _ _ _ (rules-refusal .ensures) (c .before .before .if1 .left) (c .if2 .left)
+
 loop-holds : tie.Need-loop-holds Inv-loop μ-loop
 loop-holds c = (c .before .pre .0, c .before .pre .1, λ h good e. rules-none _ _ _ h _ good e)
 
@@ -34,11 +43,15 @@ rules-refusal-requires c κs = search needs
 
 returns : tie.Need-returns Inv-loop μ-loop
 returns c h good e =
+    let loop = c .before .before .before .before .before .loop in
+    let line-at = c .before .before .before .line-at in
     rules-refused _ (c .if1 .taken)
-    (rules-stop (c .before .before .before .before .before .loop .inv .2 h good e) (search needs) _ (c .before .before .before .line-at .ensures .line) _ (c .before .rules-refusal .ensures) (c .if1 .taken))
+    (rules-stop (loop .inv .2 h good e) (search needs) _ (line-at .ensures .line) _ (c .before .rules-refusal .ensures) (c .if1 .taken))
 
 add-line : tie.Need-add-line Inv-loop μ-loop
-add-line c = omega (arith, c .before .before .before .before .before .loop .inv .1)
+add-line c =
+    let loop = c .before .before .before .before .before .loop in
+    omega (arith, loop .inv .1)
 
 element-copy-out-if2 : tie.Need-element-copy-out-if2 Inv-loop μ-loop
 element-copy-out-if2 c = search needs
@@ -51,48 +64,63 @@ four-at-requires c κs = search needs
 
 returns-2 : tie.Need-returns-2 Inv-loop μ-loop
 returns-2 c h good e =
-    let inside : c .before .before .before .before .before .before .before .before .before .loop .at < length (c .before .before .before .before .before .before .before .before .before .before .before .args .text .now) = search needs in
-    let next = c .before .before .before .before .before .before .before .line-at .ensures .next in
-    let further = line-size-pos (c .before .before .before .before .before .before .before .before .before .before .before .args .text .now) (c .before .before .before .before .before .before .before .before .before .loop .at) inside in
+    let args = c .before .before .before .before .before .before .before .before .before .before .before .args in
+    let loop = c .before .before .before .before .before .before .before .before .before .loop in
+    let line-at = c .before .before .before .before .before .before .before .line-at in
+    let rules-refusal = c .before .before .before .before .before .rules-refusal in
+    let if1 = c .before .before .before .before .if1 in
+    let if2 = c .before .before .if2 in
+    let inside : loop .at < length (args .text .now) = search needs in
+    let next = line-at .ensures .next in
+    let further = line-size-pos (args .text .now) (loop .at) inside in
     record {
       stopped = λ f. absurd (f refl);
       done = λ _.
-          rules-done (c .before .before .before .before .before .before .before .before .before .loop .inv .2 h good e) inside _ (c .before .before .before .before .before .before .before .line-at .ensures .line) _ (c .before .before .before .before .before .rules-refusal .ensures) (c .before .before .before .before .if1 .left) (c .before .before .if2 .taken) _
+          rules-done (loop .inv .2 h good e) inside _ (line-at .ensures .line) _ (rules-refusal .ensures) (if1 .left) (if2 .taken) _
           refl refl (c .four-at .ensures) refl next
-          (le-trans (le-of-eq next) (line-within (c .before .before .before .before .before .before .before .before .before .before .before .args .text .now) (c .before .before .before .before .before .before .before .before .before .loop .at) (search needs))) (omega (arith, next, c .before .before .before .before .before .before .before .before .before .loop .inv .1));
+          (le-trans (le-of-eq next) (line-within (args .text .now) (loop .at) (search needs))) (omega (arith, next, loop .inv .1));
     }
 
 rule-of-requires : tie.Need-rule-of-requires Inv-loop μ-loop
 rule-of-requires c κs = search needs
 
 mul-cell : tie.Need-mul-cell Inv-loop μ-loop
-mul-cell c = let m = rule-room (c .before .before .before .before .before .before .line-at .result .line) (c .before .before .before .before .before .before .before .before .loop .table .nonterminals) (c .before .before .before .before .before .before .before .before .loop .table .count) _ (c .before .before .before .before .rules-refusal .ensures) (c .before .before .before .if1 .left) (c .before .if2 .left) .0 in search needs
+mul-cell c = let m = room (c .before) .0 in search needs
 
 element-set-from-cell : tie.Need-element-set-from-cell Inv-loop μ-loop
-element-set-from-cell c = rule-room (c .before .before .before .before .before .before .line-at .result .line) (c .before .before .before .before .before .before .before .before .loop .table .nonterminals) (c .before .before .before .before .before .before .before .before .loop .table .count) _ (c .before .before .before .before .rules-refusal .ensures) (c .before .before .before .if1 .left) (c .before .if2 .left) .0
+element-set-from-cell c = room (c .before) .0
 
 arity-of-requires : tie.Need-arity-of-requires Inv-loop μ-loop
 arity-of-requires c κs = search needs
 
 put-parts-requires : tie.Need-put-parts-requires Inv-loop μ-loop
-put-parts-requires c κs = let m = rule-room (c .before .before .before .before .before .before .before .before .line-at .result .line) (c .before .before .before .before .before .before .before .before .before .before .loop .table .nonterminals) (c .before .before .before .before .before .before .before .before .before .before .loop .table .count) _ (c .before .before .before .before .before .before .rules-refusal .ensures) (c .before .before .before .before .before .if1 .left) (c .before .before .before .if2 .left) in (m .0, le-trans (le-of-eq (c .arity-of .ensures)) (m .1))
+put-parts-requires c κs = let m = room (c .before .before .before) in (m .0, le-trans (le-of-eq (c .arity-of .ensures)) (m .1))
 
 add-table : tie.Need-add-table Inv-loop μ-loop
-add-table c = let m = rule-room (c .before .before .before .before .before .before .before .before .before .line-at .result .line) (c .before .before .before .before .before .before .before .before .before .before .before .loop .table .nonterminals) (c .before .before .before .before .before .before .before .before .before .before .before .loop .table .count) _ (c .before .before .before .before .before .before .before .rules-refusal .ensures) (c .before .before .before .before .before .before .if1 .left) (c .before .before .before .before .if2 .left) .0 in search needs
+add-table c = let m = room (c .before .before .before .before) .0 in search needs
 
 loop-less : tie.Need-loop-less Inv-loop μ-loop
-loop-less c = line-falls _ _ (search needs) _ (c .before .before .before .before .before .before .before .before .before .line-at .ensures .next)
+loop-less c =
+    let line-at = c .before .before .before .before .before .before .before .before .before .line-at in
+    line-falls _ _ (search needs) _ (line-at .ensures .next)
 
 loop-again : tie.Need-loop-again Inv-loop μ-loop
 loop-again c =
-    let inside : c .before .before .before .before .before .before .before .before .before .before .before .loop .at < length (c .before .before .before .before .before .before .before .before .before .before .before .before .before .args .text .now) = search needs in
-    let next = c .before .before .before .before .before .before .before .before .before .line-at .ensures .next in
-    let further = line-size-pos (c .before .before .before .before .before .before .before .before .before .before .before .before .before .args .text .now) (c .before .before .before .before .before .before .before .before .before .before .before .loop .at) inside in (
-      le-trans (le-of-eq next) (line-within (c .before .before .before .before .before .before .before .before .before .before .before .before .before .args .text .now) (c .before .before .before .before .before .before .before .before .before .before .before .loop .at) (search needs)),
-      omega (arith, next, c .before .before .before .before .before .before .before .before .before .before .before .loop .inv .1),
+    let args = c .before .before .before .before .before .before .before .before .before .before .before .before .before .args in
+    let loop = c .before .before .before .before .before .before .before .before .before .before .before .loop in
+    let line-at = c .before .before .before .before .before .before .before .before .before .line-at in
+    let rules-refusal = c .before .before .before .before .before .before .before .rules-refusal in
+    let if1 = c .before .before .before .before .before .before .if1 in
+    let if2 = c .before .before .before .before .if2 in
+    let rule-of = c .before .before .before .rule-of in
+    let inside : loop .at < length (args .text .now) = search needs in
+    let next = line-at .ensures .next in
+    let further = line-size-pos (args .text .now) (loop .at) inside in (
+      le-trans (le-of-eq next) (line-within (args .text .now) (loop .at) (search needs)),
+      omega (arith, next, loop .inv .1),
       λ h good e.
-          rules-more (c .before .before .before .before .before .before .before .before .before .before .before .loop .inv .2 h good e) inside _ (c .before .before .before .before .before .before .before .before .before .line-at .ensures .line) _ (c .before .before .before .before .before .before .before .rules-refusal .ensures) (c .before .before .before .before .before .before .if1 .left) (c .before .before .before .before .if2 .left)
-          _ (c .before .before .before .rule-of .ensures) _ _ (c .before .arity-of .ensures) (c .put-parts .ensures) _ refl _ next,
+          rules-more (loop .inv .2 h good e) inside _ (line-at .ensures .line) _ (rules-refusal .ensures) (if1 .left) (if2 .left)
+          _ (rule-of .ensures) _ _ (c .before .arity-of .ensures) (c .put-parts .ensures) _ refl _ next,
     )
 
 returns-3 : tie.Need-returns-3 Inv-loop μ-loop

@@ -28,16 +28,22 @@ element-copy-out-if1 c = search needs
 returns : tie.Need-returns
 unfolding cellOf
 returns c =
-    let l = c .before .before .before .before .before .before .args .t1 in
-    let w = c .before .before .before .narrow .ensures ∙ c .before .before .before .before .two-at .ensures .0 in
+    let args = c .before .before .before .before .before .before .args in
+    let two-at = c .before .before .before .before .two-at in
+    let narrow = c .before .before .before .narrow in
+    let l = args .t1 in
+    let w = narrow .ensures ∙ two-at .ensures .0 in
     simp (eq-eqb _ _ (c .if1 .taken))
     (ap (λ (x : ℕ). record { rule = Division (getD (l .bytes) 1 0) x (getD (l .bytes) 4 0) }) w)
 
 returns-2 : tie.Need-returns-2
 unfolding cellOf
 returns-2 c =
-    let l = c .before .before .before .before .before .before .args .t1 in
-    let w = c .before .before .before .narrow .ensures ∙ c .before .before .before .before .two-at .ensures .0 in
+    let args = c .before .before .before .before .before .before .args in
+    let two-at = c .before .before .before .before .two-at in
+    let narrow = c .before .before .before .narrow in
+    let l = args .t1 in
+    let w = narrow .ensures ∙ two-at .ensures .0 in
     simp (ne-eqb _ _ (c .if1 .left))
     (ap (λ (x : ℕ). record { rule = Leaf (getD (l .bytes) 1 0) x (getD (l .bytes) 4 0) }) w)
 

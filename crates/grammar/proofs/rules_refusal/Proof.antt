@@ -21,15 +21,23 @@ leaf-refusal-requires c κs = search needs
 
 returns-2 : tie.Need-returns-2
 unfolding rulesRefusal
-returns-2 c = simp (ne-eqb _ _ (c .before .before .if1 .left), eq-eqb _ _ (c .before .if2 .taken)) (c .leaf-refusal .ensures)
+returns-2 c =
+    let if1 = c .before .before .if1 in
+    simp (ne-eqb _ _ (if1 .left), eq-eqb _ _ (c .before .if2 .taken)) (c .leaf-refusal .ensures)
 
 returns-3 : tie.Need-returns-3
 unfolding rulesRefusal
-returns-3 c = simp (ne-eqb _ _ (c .before .before .if1 .left), ne-eqb _ _ (c .before .if2 .left), ne-eqb _ _ (c .if3 .taken))
+returns-3 c =
+    let if1 = c .before .before .if1 in
+    simp (ne-eqb _ _ (if1 .left), ne-eqb _ _ (c .before .if2 .left), ne-eqb _ _ (c .if3 .taken))
 
 returns-4 : tie.Need-returns-4
 unfolding rulesRefusal
-returns-4 c = simp (ne-eqb _ _ (c .before .before .before .if1 .left), ne-eqb _ _ (c .before .before .if2 .left), eq-eqb _ _ (c .before .if3 .left), le-ltb 0 (c .before .before .before .before .before .args .count) (search needs))
+returns-4 c =
+    let args = c .before .before .before .before .before .args in
+    let if1 = c .before .before .before .if1 in
+    let if2 = c .before .before .if2 in
+    simp (ne-eqb _ _ (if1 .left), ne-eqb _ _ (if2 .left), eq-eqb _ _ (c .before .if3 .left), le-ltb 0 (args .count) (search needs))
 
 playing-refusal-requires : tie.Need-playing-refusal-requires
 playing-refusal-requires c κs = search needs
@@ -37,7 +45,11 @@ playing-refusal-requires c κs = search needs
 returns-5 : tie.Need-returns-5
 unfolding rulesRefusal
 returns-5 c =
-    simp (ne-eqb _ _ (c .before .before .before .before .if1 .left), ne-eqb _ _ (c .before .before .before .if2 .left), eq-eqb _ _ (c .before .before .if3 .left), lt-ltb 0 (c .before .before .before .before .before .before .args .count) (search needs))
+    let args = c .before .before .before .before .before .before .args in
+    let if1 = c .before .before .before .before .if1 in
+    let if2 = c .before .before .before .if2 in
+    let if3 = c .before .before .if3 in
+    simp (ne-eqb _ _ (if1 .left), ne-eqb _ _ (if2 .left), eq-eqb _ _ (if3 .left), lt-ltb 0 (args .count) (search needs))
     (c .playing-refusal .ensures)
 
 pub rules-refusal-spec : {M : Type 1} → statement M

@@ -6,7 +6,8 @@ use Prim.Native.Nat.{_+_, _-_, _≤_}
 use mathlib.Core.Path.{_≡_, _∙_, sym}
 use lib.ListN.{length, drop}
 use Rattle.hextext.specs.Text.{badLine, badFrom}
-use Rattle.hextext.proofs.BadSteps.{place, bad-none, bad-some, bad-close, bad-closed, bad-foreign, bad-last, bad-pair, bad-half, bad-open, bad-done}
+use Rattle.hextext.proofs.BadSteps.{place, bad-none, bad-some, bad-close, bad-closed, bad-last, bad-pair, bad-no-pair}
+use Rattle.hextext.proofs.BadSteps.{bad-open, bad-done}
 use Rattle.hextext.proofs.bad_line.Statement.{statement}
 use Rattle.hextext.proofs.bad_line.Tie as tie
 
@@ -36,21 +37,21 @@ loop-less c = search needs
 
 loop-again : tie.Need-loop-again Inv-loop μ-loop
 loop-again c =
-    let l = c .before .before .before .before .loop in
     let text = c .before .before .before .before .before .before .before .args .text .now in
-    (search needs, search needs, l .inv .2 ∙ bad-close (l .line) (l .begun) text (l .i) (search needs) (c .before .if2 .taken) (c .if3 .taken))
+    let loop = c .before .before .before .before .loop in
+    (search needs, search needs, loop .inv .2 ∙ bad-close (loop .line) (loop .begun) text (loop .i) (search needs) (c .before .if2 .taken) (c .if3 .taken))
 
 returns-2 : tie.Need-returns-2 Inv-loop μ-loop
 returns-2 c =
-    let l = c .before .before .before .before .loop in
     let text = c .before .before .before .before .before .before .before .args .text .now in
-    sym (l .inv .2 ∙ bad-closed (l .line) (l .begun) text (l .i) (search needs) (c .before .if2 .taken) (c .if3 .left))
+    let loop = c .before .before .before .before .loop in
+    sym (loop .inv .2 ∙ bad-closed (loop .line) (loop .begun) text (loop .i) (search needs) (c .before .if2 .taken) (c .if3 .left))
 
 returns-3 : tie.Need-returns-3 Inv-loop μ-loop
 returns-3 c =
-    let l = c .before .before .before .before .loop in
     let text = c .before .before .before .before .before .before .before .args .text .now in
-    sym (l .inv .2 ∙ bad-last (l .line) (l .begun) text (l .i) (search needs) (c .before .if2 .left) (c .if4 .taken))
+    let loop = c .before .before .before .before .loop in
+    sym (loop .inv .2 ∙ bad-last (loop .line) (loop .begun) text (loop .i) (search needs) (c .before .if2 .left) (c .if4 .taken))
 
 shared-slice-read-second : tie.Need-shared-slice-read-second Inv-loop μ-loop
 shared-slice-read-second c = search needs
@@ -58,44 +59,35 @@ shared-slice-read-second c = search needs
 add-i-2 : tie.Need-add-i-2 Inv-loop μ-loop
 add-i-2 c = search needs
 
-is-digit-requires : tie.Need-is-digit-requires Inv-loop μ-loop
-is-digit-requires c κs = search needs
-
-is-digit-requires-2 : tie.Need-is-digit-requires-2 Inv-loop μ-loop
-is-digit-requires-2 c κs = search needs
+is-pair-requires : tie.Need-is-pair-requires Inv-loop μ-loop
+is-pair-requires c κs = search needs
 
 loop-less-2 : tie.Need-loop-less-2 Inv-loop μ-loop
 loop-less-2 c = search needs
 
 loop-again-2 : tie.Need-loop-again-2 Inv-loop μ-loop
 loop-again-2 c =
-    let l = c .before .before .before .before .before .before .before .before .before .loop in
-    let text = c .before .before .before .before .before .before .before .before .before .before .before .before .args .text .now in
-    (search needs, search needs, l .inv .2 ∙ bad-pair (l .line) (l .begun) text (l .i) (search needs) (search needs) (sym (c .before .before .before .is-digit .ensures) ∙ c .before .before .if5 .taken) (sym (c .before .is-digit2 .ensures) ∙ c .if6 .taken))
+    let text = c .before .before .before .before .before .before .before .before .before .before .args .text .now in
+    let loop = c .before .before .before .before .before .before .before .loop in
+    (search needs, search needs, loop .inv .2 ∙ bad-pair (loop .line) (loop .begun) text (loop .i) (search needs) (search needs) (sym (c .before .is-pair .ensures) ∙ c .if5 .taken))
 
 returns-4 : tie.Need-returns-4 Inv-loop μ-loop
 returns-4 c =
-    let l = c .before .before .before .before .before .before .before .before .before .loop in
-    let text = c .before .before .before .before .before .before .before .before .before .before .before .before .args .text .now in
-    sym (l .inv .2 ∙ bad-half (l .line) (l .begun) text (l .i) (search needs) (search needs) (sym (c .before .before .before .is-digit .ensures) ∙ c .before .before .if5 .taken) (sym (c .before .is-digit2 .ensures) ∙ c .if6 .left))
+    let text = c .before .before .before .before .before .before .before .before .before .before .args .text .now in
+    let loop = c .before .before .before .before .before .before .before .loop in
+    sym (loop .inv .2 ∙ bad-no-pair (loop .line) (loop .begun) text (loop .i) (search needs) (search needs) (c .before .before .before .before .if2 .left) (sym (c .before .is-pair .ensures) ∙ c .if5 .left))
 
 returns-5 : tie.Need-returns-5 Inv-loop μ-loop
 returns-5 c =
-    let l = c .before .before .before .before .before .before .before .loop in
-    let text = c .before .before .before .before .before .before .before .before .before .before .args .text .now in
-    sym (l .inv .2 ∙ bad-foreign (l .line) (l .begun) text (l .i) (search needs) (c .before .before .before .before .if2 .left) (sym (c .before .is-digit .ensures) ∙ c .if5 .left))
+    let text = c .before .before .before .before .before .args .text .now in
+    let loop = c .before .before .loop in
+    sym (loop .inv .2 ∙ bad-open (loop .line) (loop .begun) text (loop .i) (search needs) (c .if6 .taken))
 
 returns-6 : tie.Need-returns-6 Inv-loop μ-loop
 returns-6 c =
-    let l = c .before .before .loop in
     let text = c .before .before .before .before .before .args .text .now in
-    sym (l .inv .2 ∙ bad-open (l .line) (l .begun) text (l .i) (search needs) (c .if7 .taken))
-
-returns-7 : tie.Need-returns-7 Inv-loop μ-loop
-returns-7 c =
-    let l = c .before .before .loop in
-    let text = c .before .before .before .before .before .args .text .now in
-    sym (l .inv .2 ∙ bad-done (l .line) (l .begun) text (l .i) (search needs) (c .if7 .left))
+    let loop = c .before .before .loop in
+    sym (loop .inv .2 ∙ bad-done (loop .line) (loop .begun) text (loop .i) (search needs) (c .if6 .left))
 
 pub bad-line-spec : {M : Type 1} → statement M
 bad-line-spec =
@@ -114,11 +106,9 @@ bad-line-spec =
     returns-3
     shared-slice-read-second
     add-i-2
-    is-digit-requires
-    is-digit-requires-2
+    is-pair-requires
     loop-less-2
     loop-again-2
     returns-4
     returns-5
-    returns-6
-    returns-7)
+    returns-6)

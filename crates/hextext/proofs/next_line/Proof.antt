@@ -25,16 +25,24 @@ add-i : tie.Need-add-i Inv-loop μ-loop
 add-i c = search needs
 
 same-length : tie.Need-same-length Inv-loop μ-loop
-same-length c = read-length (c .before .before .before .loop .inv)
+same-length c =
+    let loop = c .before .before .before .loop in
+    read-length (loop .inv)
 
 returns : tie.Need-returns Inv-loop μ-loop
-returns c = ended-0A (c .before .before .before .loop .inv) (omega arith) (c .if1 .taken)
+returns c =
+    let loop = c .before .before .before .loop in
+    ended-0A (loop .inv) (omega arith) (c .if1 .taken)
 
 same-length-2 : tie.Need-same-length-2 Inv-loop μ-loop
-same-length-2 c = read-length (c .before .before .before .before .loop .inv)
+same-length-2 c =
+    let loop = c .before .before .before .before .loop in
+    read-length (loop .inv)
 
 returns-2 : tie.Need-returns-2 Inv-loop μ-loop
-returns-2 c = ended-last (c .before .before .before .before .loop .inv) (omega arith)
+returns-2 c =
+    let loop = c .before .before .before .before .loop in
+    ended-last (loop .inv) (omega arith)
 
 shared-slice-read-pair-value : tie.Need-shared-slice-read-pair-value Inv-loop μ-loop
 shared-slice-read-pair-value c = search needs

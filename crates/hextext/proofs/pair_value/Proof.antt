@@ -18,8 +18,9 @@ digit-value-requires-2 c κs = search needs
 
 add-result : tie.Need-add-result
 add-result c =
-    let m = value-small (c .before .before .args .high) in
-    let k = value-small (c .before .before .args .low) in
+    let args = c .before .before .args in
+    let m = value-small (args .high) in
+    let k = value-small (args .low) in
     record { fits = omega (arith, c .before .digit-value .ensures, c .digit-value2 .ensures) }
 
 returns : tie.Need-returns

@@ -40,7 +40,9 @@ add-i : tie.Need-add-i Inv-loop μ-loop
 add-i c = search needs
 
 digit-of-requires : tie.Need-digit-of-requires Inv-loop μ-loop
-digit-of-requires c κs = omega (arith, c .shared-slice-known2 .given (c .before .before .loop .i))
+digit-of-requires c κs =
+    let loop = c .before .before .loop in
+    omega (arith, c .shared-slice-known2 .given (loop .i))
 
 slice-write-out : tie.Need-slice-write-out Inv-loop μ-loop
 slice-write-out c = search needs

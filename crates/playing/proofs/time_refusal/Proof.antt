@@ -47,17 +47,31 @@ cast-if6 c = search needs
 
 returns-6 : tie.Need-returns-6
 unfolding onsetRefusal
-returns-6 c = rw (sym (c .before .before .before .four-at .ensures)) (search demands depth 10)
+returns-6 c =
+    let four-at = c .before .before .before .four-at in
+    rw (sym (four-at .ensures)) (search demands depth 10)
 
 returns-7 : tie.Need-returns-7
 unfolding onsetRefusal
 returns-7 c =
-    rw (sym (c .before .before .before .before .four-at .ensures)) (search (demands, c .if7 .taken, c .before .if6 .left, c .before .before .before .if5 .left, c .before .before .before .before .before .if4 .left, c .before .before .before .before .before .before .if3 .left, c .before .before .before .before .before .before .before .if2 .left, c .before .before .before .before .before .before .before .before .before .before .if1 .left) depth 10)
+    let if1 = c .before .before .before .before .before .before .before .before .before .before .if1 in
+    let if2 = c .before .before .before .before .before .before .before .if2 in
+    let if3 = c .before .before .before .before .before .before .if3 in
+    let if4 = c .before .before .before .before .before .if4 in
+    let four-at = c .before .before .before .before .four-at in
+    let if5 = c .before .before .before .if5 in
+    rw (sym (four-at .ensures)) (search (demands, c .if7 .taken, c .before .if6 .left, if5 .left, if4 .left, if3 .left, if2 .left, if1 .left) depth 10)
 
 returns-8 : tie.Need-returns-8
 unfolding onsetRefusal
 returns-8 c =
-    rw (sym (c .before .before .before .before .four-at .ensures)) (search (demands, c .if7 .left, c .before .if6 .left, c .before .before .before .if5 .left, c .before .before .before .before .before .if4 .left, c .before .before .before .before .before .before .if3 .left, c .before .before .before .before .before .before .before .if2 .left, c .before .before .before .before .before .before .before .before .before .before .if1 .left) depth 10)
+    let if1 = c .before .before .before .before .before .before .before .before .before .before .if1 in
+    let if2 = c .before .before .before .before .before .before .before .if2 in
+    let if3 = c .before .before .before .before .before .before .if3 in
+    let if4 = c .before .before .before .before .before .if4 in
+    let four-at = c .before .before .before .before .four-at in
+    let if5 = c .before .before .before .if5 in
+    rw (sym (four-at .ensures)) (search (demands, c .if7 .left, c .before .if6 .left, if5 .left, if4 .left, if3 .left, if2 .left, if1 .left) depth 10)
 
 pub time-refusal-spec : {M : Type 1} → statement M
 time-refusal-spec =

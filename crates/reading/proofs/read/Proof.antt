@@ -24,13 +24,17 @@ refused-at-requires-2 : tie.Need-refused-at-requires-2
 refused-at-requires-2 c κs = search needs
 
 returns-2 : tie.Need-returns-2
-returns-2 c = c .refused-at2 .ensures ∙ ap readingOf (sym (ill-formed _ (search needs) _ (c .before .before .bad-line .ensures) (c .before .if2 .taken)))
+returns-2 c =
+    let bad-line = c .before .before .bad-line in
+    c .refused-at2 .ensures ∙ ap readingOf (sym (ill-formed _ (search needs) _ (bad-line .ensures) (c .before .if2 .taken)))
 
 read-lines-requires : tie.Need-read-lines-requires
 read-lines-requires c κs = bad-empty _ (sym (c .before .bad-line .ensures) ∙ c .if2 .left)
 
 returns-3 : tie.Need-returns-3
-returns-3 c = c .read-lines .ensures ∙ ap readingOf (sym (well-formed _ (search needs) (sym (c .before .before .bad-line .ensures) ∙ c .before .if2 .left)))
+returns-3 c =
+    let bad-line = c .before .before .bad-line in
+    c .read-lines .ensures ∙ ap readingOf (sym (well-formed _ (search needs) (sym (bad-line .ensures) ∙ c .before .if2 .left)))
 
 pub read-spec : {M : Type 1} → statement M
 read-spec =

@@ -13,9 +13,10 @@ no-onsets-requires c κs = search needs
 returns : tie.Need-returns
 unfolding readingOf
 returns c =
+    let args = c .before .before .args in
     λ j. record {
-      number = c .before .before .args .number;
-      line = c .before .before .args .line;
+      number = args .number;
+      line = args .line;
       duration = micros 0;
       grammar = c .before .no-grammar .ensures j;
       playing = c .no-onsets .ensures j;

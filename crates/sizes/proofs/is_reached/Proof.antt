@@ -4,7 +4,8 @@ use Prim.Native.Nat.{_+_, _*_, _-_, _≤_}
 use mathlib.Core.Path.{_≡_}
 use native.Mathlib.Omega.{arith}
 use borrow.Author.Needs.{needs}
-use Rattle.sizes.proofs.ReachedSteps.{NoneBelow, none-below, reached-whole, times-more, times-small, reached-none, none-unused, none-absent, reached-found}
+use Rattle.sizes.proofs.ReachedSteps.{NoneBelow, none-below, reached-whole, times-more, times-small, reached-none, none-unused}
+use Rattle.sizes.proofs.ReachedSteps.{none-absent, reached-found}
 use Rattle.sizes.proofs.is_reached.Statement.{statement}
 use Rattle.sizes.proofs.is_reached.Tie as tie
 
