@@ -60,7 +60,7 @@ fn time_refusal(bars: u8, duration: Micros, last: Micros, count: usize, l: Line)
     let pitch = l.bytes[5];
     let velocity = l.bytes[6];
     if 127 < pitch {
-        return 5;
+        return 5; // pitch
     }
     if velocity < 1 {
         return 5;

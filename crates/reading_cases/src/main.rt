@@ -3,10 +3,8 @@
 ghost use mathlib.Core.Path.{_≡_};
 ghost use Prim.Native.Nat.{_+_, _≤_, min};
 ghost use lib.ListN.{length};
-use sheet::GrammarTable;
 use sheet::PlayingTable;
 use sheet::Reading;
-use sheet::Rule;
 
 // Writes a label and three numbers.
 fn print(label: &[u8], a: u64, b: u64, c: u64) {
@@ -47,52 +45,6 @@ fn behind(s: &[u8], i: usize) -> usize
 
 fn wide(b: u8) -> u64 {
     b as u64
-}
-
-fn print_rule(r: Rule) {
-    match r {
-        Rule::Division {
-            head,
-            weight,
-            arity,
-        } => {
-            print(
-                b"\n  division: head, weight, parts",
-                head as u64,
-                weight as u64,
-                arity as u64,
-            );
-        }
-        Rule::Leaf { head, weight, n } => {
-            print(
-                b"\n  leaf: head, weight, n",
-                head as u64,
-                weight as u64,
-                n as u64,
-            );
-        }
-    }
-}
-
-// The first eight rules, each with the first three of its places for parts.
-fn print_rules(g: GrammarTable) {
-    let count = g.count;
-    let mut i: usize = 0;
-    while i < 8 {
-        if i < count {
-            let cell = g.rules[i];
-            let rule = cell.rule;
-            print_rule(rule);
-            let at = i * 8;
-            print(
-                b"; first places",
-                wide(g.children[at]),
-                wide(g.children[at + 1]),
-                wide(g.children[at + 2]),
-            );
-        }
-        i += 1;
-    }
 }
 
 // The first four onsets and the last.
@@ -136,7 +88,6 @@ fn print_outcome(r: Reading) {
         playing.bars as u64,
         playing.count as u64,
     );
-    print_rules(grammar);
     print_onsets(playing);
     io::write_all(1, b"\n");
 }
@@ -155,7 +106,7 @@ fn run(s: &[u8]) {
 }
 
 fn main() {
-    let mut input = [0u8; 131072];
+    let mut input = [0u8; 65536];
     let n = io::read_full(0, &mut input);
     run(&input[..n]);
 }
