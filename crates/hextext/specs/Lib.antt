@@ -1,3 +1,4 @@
 pub mod Text
 pub mod Written
 pub mod Laws
+pub mod Refuted
