@@ -1,10 +1,10 @@
 -- What the entries need of a reading: its struct is a function of the outcome. Assumes nothing.
-use Prim.Native.Nat.{ℕ, zero, suc, _+_, _≤_, _<_}
+use Prim.Native.Nat.{ℕ, _≤_, _<_}
 use mathlib.Core.Path.{_≡_, refl, sym, ap, _∙_}
 use mathlib.Core.List.{List, [], map}
 use native.Mathlib.Omega.{arith}
-use native.Mathlib.Nat.{le-trans, le-of-eq}
-use lib.ListN.{length, getD, List·getD-map, List·getD-eq-default}
+use native.Mathlib.Nat.{le-trans}
+use lib.ListN.{getD, List·getD-map, List·getD-eq-default}
 use Rattle.slices.specs.Pad.{getD-pad}
 use Rattle.sheet.specs.declared.table.Reading.{Reading}
 use Rattle.sheet.specs.declared.clock.Units.{Units}
@@ -15,7 +15,7 @@ use Rattle.sheet.specs.Good.{Good}
 use Rattle.sheet.specs.GoodLaws.{good}
 use Rattle.sheet.specs.Bounds.{refused-within}
 use Rattle.sizes.specs.Sizes.{workCells, treeBytes}
-use Rattle.cabi.specs.Entries.{checkOf, workOf, treeOf, noOnset, unitAt}
+use Rattle.cabi.specs.Entries.{workOf, treeOf, noOnset, unitAt}
 
 -- a reading's number and line are the outcome's
 numbers : (o : Outcome) → (readingOf o .number ≡ numberIn o) × (readingOf o .line ≡ lineIn o)

@@ -1,8 +1,7 @@
 -- What the entries for C and Rust give of an outcome of reading.
 use Prim.Native.Nat.{ℕ, _+_, _*_}
-use mathlib.Core.List.{List}
 use lib.ListN.{getD}
-use Rattle.sheet.specs.Sheet.{Onset, Sheet}
+use Rattle.sheet.specs.Sheet.{Onset}
 use Rattle.sheet.specs.Reading.{Outcome, refused, accepted, numberIn, lineIn}
 use Rattle.sizes.specs.Sizes.{workCells, treeBytes}
 

@@ -3,8 +3,7 @@
 use Prim.Native.Nat.{ℕ, _+_, _<_, _≤_}
 use mathlib.Core.Path.{_≡_, refl, sym, ap, subst, _∙_}
 use mathlib.Core.List.{List, [], _∷_, _++_, map}
-use native.Mathlib.Omega.{arith}
-use lib.ListN.{length, drop, set, getD, length-map}
+use lib.ListN.{length, drop, set, length-map}
 use Rattle.hextext.specs.Text.{lines, lineBytes, lineSize}
 use Rattle.hextext.specs.Laws.{lines-at, lines-end, byte-small}
 use Rattle.sheet.specs.declared.line.Line.{Line}

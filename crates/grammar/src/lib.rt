@@ -1,6 +1,6 @@
 // The grammar of a sheet: the `47` line, and the lines up to the `45` line, which ends the rules.
 ghost use mathlib.Core.Path.{_≡_};
-ghost use Prim.Native.Nat.{ℕ, _+_, _*_, _≤_, _<_};
+ghost use Prim.Native.Nat.{_+_, _*_, _≤_, _<_};
 ghost use lib.ListN.{length};
 ghost use Rattle.sheet.specs.Sheet.{Grammar};
 ghost use Rattle.sheet.specs.Reading.{headRefusal, headOf, divisionRefusal, leafRefusal, playingRefusal, rulesRefusal, allBelow, bytesFrom};

@@ -12,13 +12,13 @@ use Rattle.sheet.specs.declared.table.PlayingTable.{PlayingTable}
 use Rattle.playing.specs.declared.Latest.{Latest}
 use Rattle.playing.specs.declared.OnsetStep.{OnsetStep}
 use Rattle.playing.specs.declared.Onsets.{Onsets}
-use Rattle.sheet.specs.Sheet.{Onset, Grammar, Playing, unitOf, barOf, inBar}
+use Rattle.sheet.specs.Sheet.{Grammar, Playing, unitOf, barOf, inBar}
 use Rattle.sheet.specs.Reading.{byte, four, lineOf, onsetRefusal, onsetOf, withOnset, inOnsets, refusal, after, readLines, refused}
 use Rattle.sheet.specs.Reading.{accepted}
 use Rattle.sheet.specs.Held.{held, units, playingTable, noGrammar, noPlaying, micros}
 use Rattle.playing.specs.Steps.{latestOf}
 use Rattle.sheet.specs.SoFar.{GoodSoFar}
-use Rattle.playing.specs.Steps.{OnsetStepped, OnsetsDone, OnsetsRead}
+use Rattle.playing.specs.Steps.{OnsetStepped, OnsetsRead}
 use Rattle.sheet.specs.Clock.{first-bar}
 use Rattle.sheet.specs.Laws.{cond-zero, onset-passed, read-on, read-stop, end-without, end-with}
 use Rattle.sheet.specs.GoodLaws.{good-onset}

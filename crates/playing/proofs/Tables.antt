@@ -1,7 +1,7 @@
 -- One onset more, as the code's table holds it. Assumes nothing.
 use Prim.Native.Nat.{ℕ, _+_, _<_}
 use mathlib.Core.Path.{_≡_, sym, ap, _∙_}
-use mathlib.Core.List.{List, [], _∷_}
+use mathlib.Core.List.{[], _∷_}
 use lib.ListN.{length, set, length-append}
 use Rattle.slices.specs.Pad.{pad-map-more}
 use Rattle.sheet.specs.declared.clock.Units.{Units}

@@ -7,7 +7,7 @@ use lib.ListN.{length, drop}
 use lib.Dec.{eqb}
 use Rattle.hextext.specs.Text.{lines}
 use Rattle.sheet.specs.declared.line.Line.{Line}
-use Rattle.sheet.specs.Sheet.{Grammar, Playing, Sheet, unitOf, barOf, inBar}
+use Rattle.sheet.specs.Sheet.{Grammar, Playing, unitOf, barOf, inBar}
 use Rattle.sheet.specs.Reading.{inOnsets, refusal, readLines, withOnset, onsetOf, four, accepted, refused}
 use Rattle.sheet.specs.Held.{micros, playingTable, noPlaying}
 use Rattle.sheet.specs.SoFar.{GoodSoFar}

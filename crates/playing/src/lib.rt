@@ -1,6 +1,6 @@
 // The playing of a sheet: the `4E` lines after the `45` line.
 ghost use mathlib.Core.Path.{_≡_};
-ghost use Prim.Native.Nat.{ℕ, _+_, _*_, _≤_, _<_};
+ghost use Prim.Native.Nat.{_+_, _*_, _≤_, _<_};
 ghost use lib.ListN.{length};
 ghost use Rattle.sheet.specs.Sheet.{Grammar};
 ghost use Rattle.sheet.specs.Reading.{onsetRefusal};

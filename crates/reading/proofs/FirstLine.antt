@@ -1,14 +1,14 @@
 -- The first line of a text: the `47` line, or a refusal. Assumes nothing.
 use Prim.Native.Nat.{ℕ, _+_, _<_}
-use mathlib.Core.Path.{_≡_, refl, sym, ap, subst, _∙_}
-use mathlib.Core.List.{List, _∷_}
+use mathlib.Core.Path.{_≡_, sym, ap, subst, _∙_}
+use mathlib.Core.List.{List}
 use native.Mathlib.Omega.{arith}
 use lib.ListN.{length, drop}
 use borrow.Author.Tests.{eq-eqb, ne-eqb}
 use Rattle.hextext.specs.Text.{lines, lineBytes, lineSize}
 use Rattle.hextext.specs.Laws.{lines-at, byte-small}
 use Rattle.sheet.specs.declared.line.Line.{Line}
-use Rattle.sheet.specs.Reading.{byte, lineOf, headRefusal, headOf, Progress, nothing, inRules, refusal, after, readLines, refused}
+use Rattle.sheet.specs.Reading.{byte, lineOf, headRefusal, headOf, nothing, inRules, refusal, after, readLines, refused}
 use Rattle.sheet.specs.Held.{held}
 use Rattle.sheet.specs.Good.{GoodRules}
 use Rattle.sheet.specs.SoFar.{GoodProgress}

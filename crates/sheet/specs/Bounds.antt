@@ -1,6 +1,6 @@
 -- How large the number and the line of a refusal can be.
 use Prim.Native.Nat.{ℕ, zero, suc, _+_, _≤_}
-use mathlib.Core.Path.{_≡_, refl, sym, ap, subst}
+use mathlib.Core.Path.{_≡_, refl, sym, subst}
 use mathlib.Core.Bool.{Bool, true, false, cond}
 use mathlib.Core.List.{List, [], _∷_}
 use native.Mathlib.Omega.{arith}
@@ -10,7 +10,6 @@ use lib.ListN.{length}
 use lib.Dec.{ltb}
 use Rattle.hextext.specs.Text.{badLine, lines}
 use Rattle.hextext.specs.Laws.{bad-line-most, lines-most}
-use Rattle.sheet.specs.Sheet.{Sheet}
 use Rattle.sheet.specs.Reading.{lineOf, Progress, nothing, inRules, inOnsets, refusal, after, Outcome, refused, accepted, atEnd}
 use Rattle.sheet.specs.Reading.{readLines, readSheet}
 use Rattle.sheet.specs.Laws.{read-on, read-stop, too-long, ill-formed, well-formed}

@@ -1,20 +1,20 @@
 -- A line in the sheet's buffer of 16 bytes is refused, and adds, as the line itself: no demand looks past byte 13. Assumes nothing.
 use Prim.Native.Nat.{ℕ, zero, suc, _+_, _<_, _≤_}
-use mathlib.Core.Path.{_≡_, refl, sym, ap, _∙_}
+use mathlib.Core.Path.{_≡_, refl, ap, _∙_}
 use mathlib.Core.Bool.{Bool, true, false, cond}
-use mathlib.Core.List.{List, [], _∷_}
+use mathlib.Core.List.{List, _∷_}
 use native.Mathlib.Omega.{arith}
 use lib.ListN.{length}
 use lib.Dec.{eqb, leb, ltb}
 use borrow.Author.Tests.{leb-true}
 use Rattle.slices.specs.Pad.{getD-pad}
 use Rattle.sheet.specs.declared.line.Line.{Line}
-use Rattle.sheet.specs.Sheet.{Grammar, Onset, Playing, unitOf, barOf, inBar}
+use Rattle.sheet.specs.Sheet.{unitOf, barOf, inBar}
 use Rattle.sheet.specs.Reading.{byte, two, four, allBelow, bytesFrom, lineOf, headRefusal, headOf, divisionRefusal, divisionOf}
-use Rattle.sheet.specs.Reading.{leafRefusal, leafOf, withRule, playingRefusal, playingOf, onsetRefusal, onsetOf, withOnset}
+use Rattle.sheet.specs.Reading.{leafRefusal, leafOf, withRule, playingRefusal, playingOf, onsetRefusal, onsetOf}
 use Rattle.sheet.specs.Reading.{demand, Progress, nothing, inRules, inOnsets, rulesRefusal, refusal, after}
 use Rattle.sheet.specs.Held.{held}
-use Rattle.sheet.specs.Laws.{demand-zero, division-passed}
+use Rattle.sheet.specs.Laws.{division-passed}
 
 module _ (b : List ℕ) where
   abbrev h : Line

@@ -5,8 +5,8 @@ use mathlib.Core.Path.{_≡_, refl}
 use mathlib.Core.List.{List, [], _∷_, _++_, map}
 use lib.ListN.{replicate}
 use Rattle.sheet.specs.Literal.{textOf, times}
-use Rattle.sheet.specs.Sheet.{Rule, division, leaf, Onset, Grammar, Playing, Sheet}
-use Rattle.sheet.specs.Reading.{Outcome, refused, accepted, readSheet}
+use Rattle.sheet.specs.Sheet.{division, leaf, Sheet}
+use Rattle.sheet.specs.Reading.{refused, accepted, readSheet}
 
 -- S in three parts: the grammar (lines 1 to 5), the `45` line (6) and two onsets (7 and 8)
 abbrev pub grammarS : List ℕ

@@ -8,19 +8,19 @@ use native.Mathlib.Omega.{arith}
 use native.Mathlib.Nat.{le-trans}
 use native.Mathlib.Decide.{ℕ-discrete, decLe}
 use lib.ListN.{length, length-append}
-use lib.Dec.{eqb, leb, ltb}
-use borrow.Author.Tests.{eq-eqb, ne-eqb, eqb-true, ltb-true, lt-leb, le-leb}
+use lib.Dec.{eqb, ltb}
+use borrow.Author.Tests.{eq-eqb, ne-eqb, ltb-true}
 use Rattle.slices.specs.Every.{Every, every-more, every-at, every-weaken}
 use Rattle.hextext.specs.Text.{lines, badLine}
 use Rattle.hextext.specs.Laws.{lines-small}
 use Rattle.sheet.specs.declared.line.Line.{Line}
-use Rattle.sheet.specs.Sheet.{Rule, division, leaf, Onset, Grammar, Playing, Sheet, unitOf, barOf, inBar, barUnits}
+use Rattle.sheet.specs.Sheet.{Rule, Onset, Grammar, Playing, Sheet, unitOf, barOf, inBar, barUnits}
 use Rattle.sheet.specs.Reading.{byte, two, four, allBelow, bytesFrom, lineOf, headRefusal, headOf, divisionRefusal, divisionOf}
 use Rattle.sheet.specs.Reading.{leafRefusal, leafOf, withRule, playingRefusal, playingOf, onsetRefusal, onsetOf, withOnset}
 use Rattle.sheet.specs.Reading.{Progress, nothing, inRules, inOnsets, rulesRefusal, refusal, after, Outcome, refused, accepted}
 use Rattle.sheet.specs.Reading.{demand, atEnd, readLines, readSheet}
 use Rattle.sheet.specs.Clock.{unit-lt, unit-mono}
-use Rattle.sheet.specs.Good.{Rising, GoodRule, GoodRules, GoodOnsets, Good}
+use Rattle.sheet.specs.Good.{Rising, GoodRule, GoodRules, Good}
 use Rattle.sheet.specs.SoFar.{GoodSoFar, GoodProgress}
 use Rattle.sheet.specs.Laws.{length-bytes, demand-zero, cond-zero, head-passed, division-passed, leaf-passed, playing-passed}
 use Rattle.sheet.specs.Laws.{onset-passed, read-on, read-stop, too-long, ill-formed, well-formed}

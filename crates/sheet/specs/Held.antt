@@ -15,7 +15,7 @@ use Rattle.sheet.specs.declared.table.RuleCell.{RuleCell}
 use Rattle.sheet.specs.declared.table.GrammarTable.{GrammarTable}
 use Rattle.sheet.specs.declared.table.PlayingTable.{PlayingTable}
 use Rattle.sheet.specs.declared.table.Reading.{Reading}
-use Rattle.sheet.specs.Sheet.{Rule, division, leaf, Onset, Grammar, Playing, Sheet}
+use Rattle.sheet.specs.Sheet.{Rule, division, leaf, Onset, Grammar, Playing}
 use Rattle.sheet.specs.Reading.{Outcome, refused, accepted}
 
 abbrev pub micros : ℕ → Micros

@@ -6,12 +6,12 @@ use mathlib.Core.List.{List, [], _∷_}
 use native.Mathlib.Omega.{arith}
 use lib.ListN.{length}
 use lib.Dec.{eqb, leb, ltb}
-use borrow.Author.Tests.{le-leb, lt-leb, le-ltb, lt-ltb, leb-true, ltb-true, eqb-true}
+use borrow.Author.Tests.{le-leb, lt-leb, le-ltb, lt-ltb, leb-true, ltb-true}
 use Rattle.hextext.specs.Text.{badLine, lines}
 use Rattle.sheet.specs.declared.line.Line.{Line}
 use Rattle.sheet.specs.Sheet.{Grammar, Playing}
-use Rattle.sheet.specs.Reading.{demand, byte, two, four, allBelow, bytesFrom, lineOf, headRefusal, divisionRefusal, leafRefusal}
-use Rattle.sheet.specs.Reading.{playingRefusal, onsetRefusal, Progress, nothing, inRules, inOnsets, refusal, after, Outcome}
+use Rattle.sheet.specs.Reading.{demand, byte, four, allBelow, bytesFrom, lineOf, headRefusal, divisionRefusal, leafRefusal}
+use Rattle.sheet.specs.Reading.{playingRefusal, onsetRefusal, Progress, nothing, inRules, inOnsets, refusal, after}
 use Rattle.sheet.specs.Reading.{refused, accepted, atEnd, readLines, readFormed, readSheet}
 
 -- a demand that gives 0 is met, and what comes after it gives 0

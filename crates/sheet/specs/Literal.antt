@@ -1,6 +1,6 @@
 -- A text written as a literal, byte after byte, and a text repeated.
 use Prim.Native.Nat.{ℕ, zero, suc}
-use Prim.Native.Char.{Char, code}
+use Prim.Native.Char.{code}
 use Prim.Native.String.{String, [], _∷_}
 use mathlib.Core.List as list
 use mathlib.Core.List.{List, _++_}

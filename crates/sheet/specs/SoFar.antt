@@ -1,9 +1,8 @@
 -- What holds of a sheet in the course of reading it.
 use Prim.Native.Nat.{ℕ, _≤_}
-use mathlib.Core.List.{List}
 use lib.ListN.{length}
 use Rattle.slices.specs.Every.{Every}
-use Rattle.sheet.specs.Sheet.{Onset, Grammar, Playing, unitOf}
+use Rattle.sheet.specs.Sheet.{Onset, Playing, unitOf}
 use Rattle.sheet.specs.Reading.{Progress, nothing, inRules, inOnsets}
 use Rattle.sheet.specs.Good.{GoodRules, GoodOnsets}
 

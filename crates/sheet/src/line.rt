@@ -1,8 +1,6 @@
 // A line of a sheet and its fields.
 ghost use mathlib.Core.Path.{_≡_};
 ghost use Prim.Native.Nat.{_+_, _<_};
-ghost use lib.ListN.{drop};
-ghost use Rattle.hextext.specs.Text.{lineBytes, lineSize};
 ghost use Rattle.sheet.specs.Reading.{two, four};
 ghost use Rattle.sheet.specs.Held.{LineTaken};
 

@@ -1,14 +1,12 @@
 -- Steps of counting the onsets of a bar, onset after onset.
 use Prim.Native.Nat.{ℕ, zero, suc, _+_, _*_, max, _<_, _≤_}
 use mathlib.Core.Path.{_≡_, refl, sym, ap, _∙_}
-use mathlib.Core.Bool.{cond}
 use mathlib.Core.List.{List, [], _∷_, _++_, map}
 use native.Mathlib.Numerals.{add-one}
 use native.Mathlib.Nat.{div-lt-iff-lt-mul}
 use native.Mathlib.Omega.{arith}
 use lib.ListN.{length, getD, take, drop, List·getD-map}
 use lib.Seq.{take-suc, take-all, drop-cons}
-use lib.Dec.{eqb}
 use borrow.Author.Tests.{eq-eqb, ne-eqb}
 use Rattle.slices.specs.Every.{every-in}
 use Rattle.slices.specs.Pad.{getD-pad}

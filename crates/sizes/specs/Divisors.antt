@@ -1,7 +1,7 @@
 -- Laws of `divisors`: every divisor of 20,160 is in it, and each element is above those behind it.
 -- Assumes nothing.
 use Prim.Native.Nat.{ℕ, zero, suc, _*_, _/_, _<_, _≤_}
-use mathlib.Core.Path.{_≡_, refl, sym, ap, subst, _∙_}
+use mathlib.Core.Path.{_≡_, refl, sym, ap, _∙_}
 use mathlib.Core.Bool.{Bool, true, _&&_, _||_, not}
 use mathlib.Core.Logic.{⊎-elim}
 use mathlib.Core.List.{List, [], _∷_}
@@ -11,9 +11,9 @@ use native.Mathlib.Omega.{arith}
 use lib.ListN.{length, drop, getD}
 use lib.Dec.{eqb, ltb}
 use borrow.Author.Tests.{eq-eqb, ltb-true}
-use Rattle.slices.specs.Test.{passes, passes-at}
+use Rattle.slices.specs.Test.{and-both, passes, passes-at}
 use Rattle.sizes.specs.Sizes.{member, Once, divisors}
-use Rattle.sizes.specs.Members.{and-both, not-true-false, by-equal, member-cases, no-member, member-at}
+use Rattle.sizes.specs.Members.{not-true-false, member-cases, no-member, member-at}
 
 -- where q divides 20,160, both q and the quotient are in the list
 paired : ℕ → Bool

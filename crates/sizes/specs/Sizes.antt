@@ -6,7 +6,7 @@ use mathlib.Core.List.{List, [], _∷_, _++_}
 use lib.ListN.{length}
 use lib.Dec.{eqb}
 use Rattle.slices.specs.Every.{Every}
-use Rattle.sheet.specs.Sheet.{Rule, division, leaf, Onset, Grammar, Playing, Sheet, barUnits, inBar}
+use Rattle.sheet.specs.Sheet.{Rule, division, leaf, Playing, Sheet, barUnits, inBar}
 
 -- N, the number of onsets
 abbrev pub onsetCount : Sheet → ℕ

@@ -1,10 +1,10 @@
 -- A list written over a slice: what a function leaves that writes cell after cell and keeps every other cell.
-use mathlib.Core.Path.{_≡_, refl, ap, sym, _∙_}
+use mathlib.Core.Path.{_≡_, refl, ap}
 use mathlib.Core.List.{List, [], _∷_, _++_}
 use Prim.Native.Nat.{ℕ, zero, suc, _+_, _≤_, _<_}
 use native.Mathlib.Nat.{suc-add, zero-add}
 use native.Mathlib.Omega.{arith}
-use lib.ListN.{length, set, getD}
+use lib.ListN.{length, set}
 
 module _ {A : Type 0} where
   -- bs over the front of xs, as far as there is room; the cells behind bs are those of xs

@@ -4,7 +4,7 @@ use Prim.Native.Nat.{ℕ, zero, suc, _<_, _≤_}
 use mathlib.Core.Path.{_≡_, refl, ap, sym, _∙_}
 use mathlib.Core.List.{List, [], _∷_, _++_, map, map-append}
 use native.Mathlib.Omega.{arith}
-use lib.ListN.{length, getD, set, replicate, length-map, length-replicate, List·getD-eq-default}
+use lib.ListN.{length, getD, set, replicate, length-map, length-replicate}
 use Rattle.slices.specs.Over.{over, over-nil, over-more, over-full, length-over}
 
 module _ {A : Type 0} where

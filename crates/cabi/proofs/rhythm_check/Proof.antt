@@ -1,7 +1,6 @@
 -- `rhythm_check` meets its contract: a refusal's line is small, so the two fit one number. Assumes nothing.
 use borrow.Author.Needs.{needs}
-use Prim.Native.Nat.{ℕ, _+_, _*_}
-use mathlib.Core.Path.{_≡_}
+use Prim.Native.Nat.{_+_, _*_}
 use native.Mathlib.Omega.{arith}
 use Rattle.cabi.proofs.Readings.{number-is, line-is, line-small}
 use Rattle.cabi.proofs.rhythm_check.Statement.{statement}

@@ -1,6 +1,5 @@
 -- `rhythm_onset_unit` meets its contract: places behind the onsets hold 0. Assumes nothing.
 use borrow.Author.Needs.{needs}
-use mathlib.Core.Path.{_≡_}
 use Rattle.cabi.proofs.Readings.{unit-is, unit-none}
 use Rattle.cabi.proofs.rhythm_onset_unit.Statement.{statement}
 use Rattle.cabi.proofs.rhythm_onset_unit.Tie as tie

@@ -1,6 +1,5 @@
 -- `rhythm_tree_bytes` meets its contract, for a refused text and for an accepted one. Assumes nothing.
 use borrow.Author.Needs.{needs}
-use mathlib.Core.Path.{_≡_}
 use Rattle.cabi.proofs.Readings.{counts, none-refused, tree-is}
 use Rattle.cabi.proofs.rhythm_tree_bytes.Statement.{statement}
 use Rattle.cabi.proofs.rhythm_tree_bytes.Tie as tie

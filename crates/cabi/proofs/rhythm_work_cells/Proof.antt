@@ -1,6 +1,5 @@
 -- `rhythm_work_cells` meets its contract, for a refused text and for an accepted one. Assumes nothing.
 use borrow.Author.Needs.{needs}
-use mathlib.Core.Path.{_≡_}
 use Rattle.cabi.proofs.Readings.{counts, none-refused, work-is}
 use Rattle.cabi.proofs.rhythm_work_cells.Statement.{statement}
 use Rattle.cabi.proofs.rhythm_work_cells.Tie as tie

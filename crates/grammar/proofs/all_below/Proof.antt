@@ -2,8 +2,8 @@
 -- Assumes nothing.
 use borrow.Author.Needs.{needs}
 use native.Mathlib.Omega.{arith}
-use Prim.Native.Nat.{ℕ, _+_, _-_, _≤_, _<_}
-use mathlib.Core.Path.{_≡_, refl, ap, _∙_, sym}
+use Prim.Native.Nat.{ℕ, _+_, _-_, _≤_}
+use mathlib.Core.Path.{_≡_, ap, _∙_, sym}
 use Rattle.sheet.specs.Reading.{allBelow, bytesFrom}
 use Rattle.grammar.proofs.Flats.{bytes-step, below-yes, below-no}
 use Rattle.grammar.proofs.all_below.Statement.{statement}

@@ -1,6 +1,6 @@
 -- `division_refusal` meets its contract: each return has passed the demands before it. Assumes nothing.
 use borrow.Author.Needs.{needs}
-use mathlib.Core.Path.{_≡_, sym, _∙_}
+use mathlib.Core.Path.{sym, _∙_}
 use Rattle.sheet.specs.Reading.{divisionRefusal}
 use Rattle.sheet.specs.Demands.{demands, pass-below, fail-below}
 use Rattle.grammar.proofs.division_refusal.Statement.{statement}

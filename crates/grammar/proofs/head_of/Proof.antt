@@ -1,6 +1,6 @@
 -- `head_of` meets its contract: the grammar of zeros with the three fields of the line. Assumes nothing.
 use borrow.Author.Needs.{needs}
-use mathlib.Core.Path.{_≡_, _∙_}
+use mathlib.Core.Path.{_∙_}
 use lib.ListN.{getD}
 use Rattle.sheet.specs.Reading.{headOf}
 use Rattle.sheet.specs.Held.{grammarTable}

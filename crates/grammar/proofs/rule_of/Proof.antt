@@ -1,10 +1,9 @@
 -- `rule_of` meets its contract: the fields of the line, as a division or as a leaf by its kind. Assumes nothing.
 use borrow.Author.Needs.{needs}
-use mathlib.Core.Path.{_≡_, _∙_, ap}
+use mathlib.Core.Path.{_∙_, ap}
 use Prim.Native.Nat.{ℕ}
 use lib.ListN.{getD}
 use borrow.Author.Tests.{eq-eqb, ne-eqb}
-use Rattle.sheet.specs.declared.table.RuleCell.{RuleCell}
 use Rattle.sheet.specs.declared.table.Rule.the-variants.{Division, Leaf}
 use Rattle.grammar.specs.Steps.{cellOf}
 use Rattle.grammar.proofs.rule_of.Statement.{statement}

@@ -1,6 +1,5 @@
 -- `rules_refusal` meets its contract: the refusal is that of the line's kind. Assumes nothing.
 use borrow.Author.Needs.{needs}
-use mathlib.Core.Path.{_≡_, _∙_}
 use borrow.Author.Tests.{eq-eqb, ne-eqb, lt-ltb, le-ltb}
 use Rattle.sheet.specs.Reading.{rulesRefusal}
 use Rattle.grammar.proofs.rules_refusal.Statement.{statement}

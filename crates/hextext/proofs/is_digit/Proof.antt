@@ -1,5 +1,4 @@
 -- `hextext::is_digit` meets its contract, by where the byte stands. Assumes nothing.
-use mathlib.Core.Path.{_≡_}
 use native.Mathlib.Omega.{arith}
 use borrow.Author.Tests.{le-leb, lt-leb}
 use Rattle.hextext.specs.Text.{isDigit}

@@ -1,6 +1,6 @@
 -- `hextext::is_pair` meets its contract. Assumes nothing.
 use borrow.Author.Needs.{needs}
-use mathlib.Core.Path.{_≡_, _∙_, sym, ap}
+use mathlib.Core.Path.{_∙_, sym, ap}
 use mathlib.Core.Bool.{Bool, _&&_}
 use Rattle.hextext.specs.Text.{isDigit}
 use Rattle.hextext.proofs.is_pair.Statement.{statement}

@@ -3,11 +3,10 @@
 use borrow.Author.Needs.{needs}
 use native.Mathlib.Omega.{arith}
 use native.Mathlib.Nat.{lt-of-lt-of-le, lt-of-le-of-lt, le-of-eq, mul-le-mul-right}
-use Prim.Native.Nat.{ℕ, _+_, _<_}
-use mathlib.Core.Path.{_≡_, refl, _∙_, sym, ap}
+use Prim.Native.Nat.{ℕ, _+_}
+use mathlib.Core.Path.{_∙_, sym, ap}
 use borrow.Author.Tests.{lt-ltb, le-ltb}
 use Rattle.sheet.specs.Sheet.{unitOf, barOf}
-use Rattle.sheet.specs.Reading.{four, demand}
 use Rattle.sheet.specs.Held.{micros}
 use Rattle.sheet.specs.Laws.{onset-passed}
 use Rattle.playing.proofs.OnsetSteps.{other-line, stopped, refused-before, here-is, refused-by-bar, run-more}

@@ -1,6 +1,6 @@
 -- `time_refusal` meets its contract: each return has passed the demands before it. Assumes nothing.
 use borrow.Author.Needs.{needs}
-use mathlib.Core.Path.{_≡_, sym}
+use mathlib.Core.Path.{sym}
 use Rattle.sheet.specs.Reading.{onsetRefusal}
 use Rattle.sheet.specs.Clock.{end-fits}
 use Rattle.sheet.specs.Demands.{demands}

@@ -1,10 +1,6 @@
 -- `read` meets its contract: refusal 1, then 2, then line by line. Assumes nothing.
 use borrow.Author.Needs.{needs}
-use mathlib.Core.Path.{_≡_, refl, ap, _∙_, sym}
-use native.Mathlib.Omega.{arith}
-use lib.ListN.{length}
-use Prim.Native.Nat.{_<_}
-use mathlib.Core.List.{List, [], _∷_}
+use mathlib.Core.Path.{ap, _∙_, sym}
 use Rattle.hextext.specs.Laws.{bad-empty}
 use Rattle.sheet.specs.Held.{readingOf}
 use Rattle.sheet.specs.Laws.{too-long, ill-formed, well-formed}

@@ -1,8 +1,8 @@
 -- `read_lines` meets its contract: the first line, the rules and the onsets, each from where the one before ended. Assumes nothing.
 use borrow.Author.Needs.{needs}
 use native.Mathlib.Omega.{arith}
-use Prim.Native.Nat.{ℕ, _≤_, _<_}
-use mathlib.Core.Path.{_≡_, refl, sym, ap, _∙_}
+use Prim.Native.Nat.{ℕ}
+use mathlib.Core.Path.{_≡_, sym, ap, _∙_}
 use native.Mathlib.Nat.{le-trans, le-of-eq}
 use mathlib.Core.List.{List}
 use lib.ListN.{drop}

@@ -1,7 +1,6 @@
 -- `tree_bytes` meets its contract. Assumes nothing.
 use borrow.Author.Needs.{needs}
-use Prim.Native.Nat.{ℕ, _+_, _*_}
-use mathlib.Core.Path.{_≡_}
+use Prim.Native.Nat.{_+_, _*_}
 use Rattle.sheet.specs.Held.{playingTable}
 use Rattle.sizes.specs.Sizes.{treeBytes}
 use Rattle.sizes.proofs.tree_bytes.Statement.{statement}

@@ -1,8 +1,8 @@
 -- `work_cells` meets its contract: the counts of lengths and of a bar's onsets are those of the sheet, and the products are small.
 -- Assumes nothing.
 use borrow.Author.Needs.{needs}
-use Prim.Native.Nat.{ℕ, _+_, _*_, _≤_}
-use mathlib.Core.Path.{_≡_, ap, sym, _∙_}
+use Prim.Native.Nat.{_+_, _*_, _≤_}
+use mathlib.Core.Path.{ap, sym, _∙_}
 use native.Mathlib.Omega.{arith}
 use Rattle.sheet.specs.Held.{grammarTable, playingTable}
 use Rattle.sizes.specs.declared.LengthTable.{LengthTable}
