@@ -1,0 +1,9 @@
+pub mod Derivation
+pub mod Minima
+pub mod Least
+pub mod First
+pub mod Table
+pub mod Cells
+pub mod Rebuild
+pub mod Bound
+pub mod Reads

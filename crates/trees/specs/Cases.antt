@@ -1,0 +1,132 @@
+-- The eight cases of document 01 ("The sheet S and its neighbours"), and for each of its five traps a text on which the trap would answer
+-- differently. Each text is read by `readSheet`. Here the answers are computed; `CasesHold.all-hold` says what they mean.
+use Prim.Native.Nat.{ℕ, _+_}
+use mathlib.Core.Path.{_≡_, refl}
+use mathlib.Core.Bool.{Bool, true, false, not, _&&_}
+use mathlib.Core.List.{List, [], _∷_, _++_, map}
+use mathlib.Core.Option.{none, some, Option·elim}
+use lib.Dec.{eqb}
+use lib.ListN.{length, replicate}
+use Rattle.sheet.specs.Literal.{textOf, times}
+use Rattle.sheet.specs.Sheet.{Sheet}
+use Rattle.sheet.specs.Reading.{Outcome, refused, accepted, readSheet}
+use Rattle.sheet.specs.Cases.{grammarS, headS, S}
+use Rattle.derivations.specs.Derivation.{derive, onto}
+use Rattle.derivations.specs.Minima.{lowest}
+use Rattle.derivations.specs.Table.{via, forward}
+use Rattle.trees.specs.ValidTrees.{whose, bars, distanceTo, totalOf}
+use Rattle.trees.specs.Instance.{instanceOf}
+use Rattle.trees.specs.LeastTotal.{NONE, leastTotal}
+
+-- what is said of a text: these bytes are a least tree with R, D and total; there is no tree; these bytes are a tree with R and D; these
+-- bytes are no tree
+pub data Verdict : Type 0 where
+  least : (bytes : List ℕ) (R D total : ℕ) → Verdict
+  no-tree : Verdict
+  priced : (bytes : List ℕ) (R D : ℕ) → Verdict
+  no-valid : (bytes : List ℕ) → Verdict
+
+pub record Case : Type 0 where
+  pub text : List ℕ
+  pub verdict : Verdict
+
+-- ---- the test of a case
+
+unfoldable pub pricedAs : Sheet → List ℕ → (R D : ℕ) → Bool
+unfolding derive instanceOf bars onto
+pricedAs s bs R D = elim (derive (instanceOf s) bs (bars s) 0) [
+  | none ↦ false
+  | some p ↦ eqb (p .carry) 0 && (eqb (p .weight) R && eqb (p .distance) D)
+]
+
+unfoldable pub isTree : Sheet → List ℕ → Bool
+unfolding derive instanceOf bars onto
+isTree s bs = elim (derive (instanceOf s) bs (bars s) 0) [ none ↦ false | some p ↦ eqb (p .carry) 0 ]
+
+unfoldable pub judged : Sheet → Verdict → Bool
+unfolding pricedAs isTree leastTotal
+judged s (least bs R D t) = pricedAs s bs R D && (eqb (totalOf s R D) t && eqb (leastTotal s) t)
+judged s no-tree = eqb (leastTotal s) NONE
+judged s (priced bs R D) = pricedAs s bs R D
+judged s (no-valid bs) = not (isTree s bs)
+
+unfoldable pub judgedOf : Outcome → Verdict → Bool
+unfolding judged
+judgedOf (refused k n) v = false
+judgedOf (accepted d s) v = judged s v
+
+unfoldable pub holds : Case → Bool
+unfolding judgedOf readSheet
+holds c = judgedOf (readSheet (c .text)) (c .verdict)
+
+-- ---- the eight
+
+abbrev case : List ℕ → Verdict → Case
+case t v = record { text = t; verdict = v }
+
+-- S with the first onset dropped and the other at the time given
+abbrev later : List ℕ → List ℕ
+later t = grammarS ++ headS ++ textOf "4E" ++ t ++ textOf "3E40\n"
+
+abbrev pub paper : List Case
+paper =
+    case S (least (1 ∷ 3 ∷ 3 ∷ []) 8 1008 1088)
+    ∷ case (later (textOf "0007A11F")) (least (0 ∷ []) 1 5039 5049)
+    ∷ case (later (textOf "0007A120")) (least (0 ∷ []) 1 5040 5050)
+    ∷ case (later (textOf "000F423F")) (least (1 ∷ 2 ∷ 3 ∷ []) 9 1 91)
+    ∷ case (later (textOf "000F4240")) (least (1 ∷ 2 ∷ 3 ∷ []) 9 0 90)
+    ∷ case (grammarS ++ textOf "4502001E8480\n4E000000003C40\n4E001E847F3E40\n") (least (0 ∷ 0 ∷ []) 2 1 21)
+    ∷ case (grammarS ++ headS ++ textOf "4E000000003C40\n4E000000003E40\n") no-tree
+    ∷ case S (no-valid (0 ∷ []))
+    ∷ []
+
+-- ---- the traps
+
+-- 1: an onset exactly at the middle of the first half is late
+abbrev middle : List Case
+middle =
+    case (later (textOf "0007A120")) (priced (1 ∷ 2 ∷ 3 ∷ []) 9 5040)
+    ∷ case (later (textOf "0007A120")) (no-valid (1 ∷ 3 ∷ 2 ∷ []))
+    ∷ []
+
+-- 2: n = 3 is "three or more", here four
+abbrev four-placed : List Case
+four-placed =
+    case (textOf "4701000001\n4C00000503\n4501001E8480\n" ++ times 4 (textOf "4E000000003C40\n")) (least (0 ∷ []) 5 0 5) ∷ []
+
+-- 3: An onset at unit 6,000, in the first half. That half alone is best divided: distance 960 and nothing carried out. But then the second
+-- half, with nothing placed, weighs 5,000; least is to carry the onset there, at distance 4,080.
+abbrev two-ways : List ℕ
+two-ways =
+    textOf "4705000001\n44000000020102\n4C01000000\n44010000020304\n4C03000000\n4C04000001\n4C02000001\n4C02138800\n"
+    ++ textOf "4501001E8480\n4E000915273C40\n"
+
+abbrev second-best : List Case
+second-best = case two-ways (least (0 ∷ 1 ∷ 5 ∷ []) 0 4080 4080) ∷ case two-ways (priced (0 ∷ 2 ∷ 3 ∷ 4 ∷ 6 ∷ []) 5000 960) ∷ []
+
+-- 4: Two bars and an onset at unit 15,200, in the first. That bar alone has a tree, of weight 6,000 and distance 80; least is to carry the
+-- onset over the bar line, at distance 4,960.
+abbrev two-bars : List ℕ
+two-bars =
+    textOf "4703000001\n4C00000000\n4C00000001\n44001770020101\n4C01000000\n4C01000001\n44010000020202\n4C02000000\n4C02000001\n"
+    ++ textOf "4502001E8480\n4E001702A03C40\n"
+
+abbrev over-bar-line : List Case
+over-bar-line =
+    case two-bars (least (0 ∷ 1 ∷ []) 0 4960 4960) ∷ case two-bars (priced (2 ∷ 3 ∷ 5 ∷ 6 ∷ 7 ∷ 0 ∷ []) 6000 80) ∷ []
+
+-- 5: The second half only receives a carry. Divided, it would weigh nothing; as a leaf it weighs 7.
+abbrev receiving : List ℕ
+receiving =
+    textOf "4705000001\n44000000020102\n4C01000000\n44020000020304\n4C03000001\n4C04000000\n4C02000701\n4501001E8480\n4E000915273C40\n"
+
+abbrev only-receives : List Case
+only-receives = case receiving (least (0 ∷ 1 ∷ 5 ∷ []) 7 4080 4087) ∷ case receiving (no-valid (0 ∷ 1 ∷ 2 ∷ 3 ∷ 4 ∷ [])) ∷ []
+
+abbrev pub cases : List Case
+cases = paper ++ middle ++ four-placed ++ second-best ++ over-bar-line ++ only-receives
+
+-- the computed answers agree with every case
+pub all-computed : map holds cases ≡ replicate (length cases) true
+unfolding holds whose distanceTo Option·elim lowest via forward
+all-computed = refl
