@@ -21,8 +21,9 @@ use Rattle.trees.specs.Instance.{instanceOf, Derived}
 use Rattle.trees.specs.LeastTotal.{NONE, leastTotal}
 use Rattle.trees.specs.Cases.{Verdict, least, no-tree, priced, no-valid, Case, pricedAs, isTree, judged, judgedOf}
 use Rattle.trees.specs.Cases.{holds, cases, all-computed}
-use Rattle.trees.specs.Bridge.{valid-derived, derived-valid}
-use Rattle.trees.specs.Found.{LeastTree, least-total-below, none-valid}
+use Rattle.trees.specs.Equivalence.{valid-derived, derived-valid}
+use Rattle.trees.specs.Found.{LeastTree, least-total-below}
+use Rattle.trees.specs.Theorems.{none-valid}
 use Rattle.trees.specs.Found as found
 
 -- what a verdict says of a sheet

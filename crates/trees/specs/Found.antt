@@ -1,20 +1,16 @@
--- What holds of every accepted sheet's valid trees: how large they are, that the cells and the least total are theirs, and that either no
--- list is valid or one is least, and then one is first of the least in dictionary order.
-use Prim.Native.Nat.{ℕ, _+_, _*_, _≤_, _<_, _^_}
+-- The cells and the least total that are computed are those of the valid trees: no valid tree totals less, and below the cap one totals as
+-- much, the first of the least in dictionary order.
+use Prim.Native.Nat.{ℕ, _≤_, _<_}
 use mathlib.Core.Path.{_≡_, refl, ap, _∙_}
-use mathlib.Core.List.{List, [], _∷_}
-use mathlib.Core.Logic.{_⊎_, inl, inr}
+use mathlib.Core.List.{List}
 use mathlib.Core.Option.{some}
-use native.Mathlib.Decide.{decLt}
 use native.Mathlib.Omega.{arith}
-use lib.ListN.{length}
 use Rattle.slices.specs.Every.{every-all}
 use Rattle.sheet.specs.Sheet.{Sheet}
-use Rattle.sheet.specs.Good.{GoodRules, Good}
-use Rattle.derivations.specs.Derivation.{Item, Price, derive, price-eq}
-use Rattle.derivations.specs.Bound.{nodes-bound}
+use Rattle.sheet.specs.Good.{GoodRules}
+use Rattle.derivations.specs.Derivation.{Item, Price, price-eq}
 use Rattle.derivations.specs.Minima.{only, only-same, only-below}
-use Rattle.derivations.specs.Least.{Least, total, carry-fits}
+use Rattle.derivations.specs.Least.{Least, total}
 use Rattle.derivations.specs.First.{Lex, First, first-total}
 use Rattle.derivations.specs.Table.{Exact, backward-least}
 use Rattle.derivations.specs.Cells.{cell-exact}
@@ -22,11 +18,8 @@ use Rattle.derivations.specs.Rebuild.{first-exists}
 use Rattle.trees.specs.ValidTrees.{bars, ValidTree, Priced, totalOf}
 use Rattle.trees.specs.Instance.{instanceOf, Derived}
 use Rattle.trees.specs.LeastTotal.{NONE, carries, cellOf, leastTotal}
-use Rattle.trees.specs.Room.{room, room-pays, bars-room, Stretch, stretch-bars, stretch-front, stretch-expands, stretch-at}
-use Rattle.trees.specs.Room.{total-small}
 use Rattle.trees.specs.Laws.{lawful, falls}
-use Rattle.trees.specs.Aligned.{Occurs, bar, part}
-use Rattle.trees.specs.Bridge.{valid-derived, derived-valid}
+use Rattle.trees.specs.Equivalence.{valid-derived, derived-valid}
 
 -- a valid list has its own R and D
 pub priced : (s : Sheet) (bs : List ℕ) → ValidTree s bs → (R : ℕ) × (D : ℕ) × Priced s bs R D
@@ -101,49 +94,3 @@ module _ (s : Sheet) where
 
             lex : (xs : List ℕ) (R′ D′ : ℕ) → Priced s xs R′ D′ → totalOf s R′ D′ ≤ totalOf s (p .weight) (p .distance) → Lex bs xs
             lex xs R′ D′ q k = f .first xs (priceOf0 R′ D′) (valid-derived s xs R′ D′ q) (omega (arith, zero-cost, total-priced R′ D′))
-
--- ---- of an accepted sheet
-
-module _ (s : Sheet) (d : ℕ) (good : Good d s) where
-  -- at most B + 80 × N nodes, and for a part of a tree no more than its item has room for
-  pub node-count : (bs : List ℕ) → ValidTree s bs → length bs ≤ s .playing .bars + 80 * length (s .playing .onsets)
-  unfolding Derived
-  node-count bs v =
-      let (R, D, p) = priced s bs v in
-      omega (arith, bars-room s, nodes-bound (instanceOf s) (room s) (room-pays s (good .rules)) bs (bars s) 0 _ (valid-derived s bs R D p))
-
-  pub part-node-count : (bs : List ℕ) (g : Item) (c : ℕ) (p : Price) → derive (instanceOf s) bs (g ∷ []) c ≡ some p → length bs ≤ room s g
-  part-node-count bs g c p e = omega (arith, nodes-bound (instanceOf s) (room s) (room-pays s (good .rules)) bs (g ∷ []) c p e)
-
-  -- every total is below 2^49; and so is what any part of a tree totals: what is read against an item of the sheet, or any stretch of items
-  pub total-below : (bs : List ℕ) (R D : ℕ) → Priced s bs R D → totalOf s R D < 2 ^ 49
-  unfolding Derived
-  total-below bs R D p = total-small s (good .rules) bs (bars s) 0 _ (stretch-bars s good) (valid-derived s bs R D p)
-
-  stretch-item : (g : Item) → Occurs s g → Stretch s (g ∷ [])
-  stretch-item _ (bar g b e) = stretch-at s (bars s) b g e (stretch-bars s good)
-  stretch-item _ (part g h c r i m o e k) =
-      stretch-at s (m .parts) i h k
-      (stretch-front s (m .parts) [] (stretch-expands s (good .rules) g [] c r m e (stretch-item g o)))
-
-  pub part-total-below : (bs : List ℕ) (g : Item) (c : ℕ) (p : Price) → Occurs s g → derive (instanceOf s) bs (g ∷ []) c ≡ some p
-      → totalOf s (p .weight) (p .distance) < 2 ^ 49
-  part-total-below bs g c p o = total-small s (good .rules) bs (g ∷ []) c p (stretch-item g o)
-
-  -- the carry never passes 3
-  pub carry-at-most-three : (bs : List ℕ) (gs : List Item) (c : ℕ) (p : Price) → derive (instanceOf s) bs gs c ≡ some p → c ≤ 3
-      → p .carry ≤ 3
-  carry-at-most-three bs gs c p e h = omega (arith, carry-fits (lawful s) bs gs c p e (omega arith))
-
-  -- where the least total is the cap, no list of any length is a valid tree
-  pub none-valid : NONE ≤ leastTotal s → (bs : List ℕ) → ValidTree s bs → ⊥
-  none-valid h bs v =
-      let (R, D, p) = priced s bs v in
-      omega (arith, least-total-below s (good .rules) bs R D p, total-below bs R D p)
-
-  -- either no list is valid or one is least, the first of the least in dictionary order
-  pub none-or-first : ((bs : List ℕ) → ValidTree s bs → ⊥) ⊎ ((bs : List ℕ) × (R : ℕ) × (D : ℕ) × FirstTree s bs R D)
-  none-or-first = elim (decLt (leastTotal s) NONE) [
-    | yes h ↦ let (bs, R, D, f, e) = first-tree s (good .rules) h in inr (bs, R, D, f)
-    | no h ↦ inl (none-valid (omega arith))
-  ]

@@ -1,5 +1,5 @@
--- Valid trees as code and search use them: the derivations of a sheet's instance. `Bridge` shows that a list is derived at a price exactly
--- when it is a valid tree, in the sense of `ValidTrees`, with that R and D.
+-- Valid trees as code and search use them: the derivations of a sheet's instance. `Equivalence` shows that a list is derived at a price
+-- exactly when it is a valid tree, in the sense of `ValidTrees`, with that R and D.
 use Prim.Native.Nat.{ℕ, _+_, _/_}
 use mathlib.Core.Path.{_≡_}
 use mathlib.Core.Bool.{cond}

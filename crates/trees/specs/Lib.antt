@@ -7,13 +7,14 @@ pub mod Order
 pub mod Placing
 pub mod Fits
 pub mod Readings
-pub mod Bridge
+pub mod Equivalence
 pub mod OneReading
 pub mod Onsets
 pub mod Depth
 pub mod Room
 pub mod Laws
-pub mod Aligned
+pub mod Intervals
 pub mod Nesting
 pub mod Found
+pub mod Theorems
 pub mod CasesHold

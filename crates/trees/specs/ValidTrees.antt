@@ -153,7 +153,7 @@ pub record ValidTree (s : Sheet) (bytes : List ℕ) : Type 0 where
   -- "nor out of the last"
   pub none-carried-out : carriedOut s [] leaves ≡ []
 
--- "R is the sum of the weights of all rules used"
+-- a rule's weight, and that of rule r (document 01, "The sheet": both kinds have one)
 abbrev pub weightOf : Rule → ℕ
 weightOf (division h w ks) = w
 weightOf (leaf h w n) = w
@@ -161,6 +161,7 @@ weightOf (leaf h w n) = w
 unfoldable pub weightAt : Sheet → ℕ → ℕ
 weightAt s r = Option·elim (ruleAt s r) 0 weightOf
 
+-- "R is the sum of the weights of all rules used" (000: the weight of a parse tree)
 unfoldable pub ruleWeight : Sheet → List ℕ → ℕ
 ruleWeight s [] = 0
 ruleWeight s (r ∷ bs) = weightAt s r + ruleWeight s bs
