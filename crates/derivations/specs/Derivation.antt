@@ -109,13 +109,16 @@ module _ (P : Instance) where
   unfolding derive onto
   cons-derive r bs g gs c m q h k = rw (h, k)
 
-  -- The induction principle of readings: what holds of the empty list, and of a rule before each list of which it holds, holds of every
-  -- list that is read.
-  pub derive-rec {ℓ} : (X : List ℕ → List Item → ℕ → Price → Type ℓ) → ((c : ℕ) → X [] [] c (unspent c))
-      → ((r : ℕ) (bs : List ℕ) (g : Item) (gs : List Item) (c : ℕ) (m : Expansion) (q : Price) → P .expand g c r ≡ some m
+  -- X holds of a rule before each list that is read and of which it holds
+  abbrev pub Steps {ℓ} : (X : List ℕ → List Item → ℕ → Price → Type ℓ) → Type ℓ
+  Steps X =
+      (r : ℕ) (bs : List ℕ) (g : Item) (gs : List Item) (c : ℕ) (m : Expansion) (q : Price) → P .expand g c r ≡ some m
       → derive P bs (m .parts ++ gs) (m .carry) ≡ some q → X bs (m .parts ++ gs) (m .carry) q
-      → X (r ∷ bs) (g ∷ gs) c (priceOf (P .weight r) m ⊞ q))
-      → (bs : List ℕ) (gs : List Item) (c : ℕ) (p : Price) → derive P bs gs c ≡ some p → X bs gs c p
+      → X (r ∷ bs) (g ∷ gs) c (priceOf (P .weight r) m ⊞ q)
+
+  -- The induction principle of readings: what holds of the empty list and by steps holds of every list that is read.
+  pub derive-rec {ℓ} : (X : List ℕ → List Item → ℕ → Price → Type ℓ) → ((c : ℕ) → X [] [] c (unspent c)) → Steps X → (bs : List ℕ)
+      (gs : List Item) (c : ℕ) (p : Price) → derive P bs gs c ≡ some p → X bs gs c p
   unfolding derive
   derive-rec X last more [] [] c p h = subst (X [] [] c) (Option·some-injective _ _ h) (last c)
   derive-rec X last more [] (g ∷ gs) c p h = absurd (Option·none-ne-some _ h)
@@ -146,17 +149,16 @@ module _ (P : Instance) where
 
   pub derive-split : (bs : List ℕ) (g₁ g₂ : List Item) (c : ℕ) (p : Price) → derive P bs (g₁ ++ g₂) c ≡ some p → Split bs g₁ g₂ c p
   unfolding derive
-  derive-split bs g₁ g₂ c p h =
-      derive-rec (λ bs gs c p. (g₁ : List Item) → gs ≡ g₁ ++ g₂ → Split bs g₁ g₂ c p) last more bs (g₁ ++ g₂) c p h g₁ refl
+  derive-split bs g₁ g₂ c p h = derive-rec Splits last more bs (g₁ ++ g₂) c p h g₁ refl
     where
+      Splits : List ℕ → List Item → ℕ → Price → Type 0
+      Splits bs gs c p = (g₁ : List Item) → gs ≡ g₁ ++ g₂ → Split bs g₁ g₂ c p
+
       last : (c : ℕ) (g₁ : List Item) → [] ≡ g₁ ++ g₂ → Split [] g₁ g₂ c (unspent c)
       last c [] e = split-front [] g₂ c (unspent c) (rw (← e) refl)
       last c (g ∷ g₁) e = absurd (nil≢cons e)
 
-      more : (r : ℕ) (bs : List ℕ) (g : Item) (gs : List Item) (c : ℕ) (m : Expansion) (q : Price) → P .expand g c r ≡ some m
-          → derive P bs (m .parts ++ gs) (m .carry) ≡ some q
-          → ((g₁ : List Item) → m .parts ++ gs ≡ g₁ ++ g₂ → Split bs g₁ g₂ (m .carry) q)
-          → (g₁ : List Item) → g ∷ gs ≡ g₁ ++ g₂ → Split (r ∷ bs) g₁ g₂ c (priceOf (P .weight r) m ⊞ q)
+      more : Steps Splits
       more r bs g gs c m q hm hd ih [] e = split-front (r ∷ bs) g₂ c _ (rw (← e) (cons-derive r bs g gs c m q hm hd))
       more r bs g gs c m q hm hd ih (k ∷ g₁) e =
           let w : Price = priceOf (P .weight r) m in

@@ -10,7 +10,7 @@ use native.Mathlib.Omega.{arith}
 use Rattle.derivations.specs.Derivation.{Item, Expansion, Price, Instance, Lawful, derive, unspent, priceOf, _⊞_}
 use Rattle.derivations.specs.Derivation.{derive-nil, derive-cons, cons-derive, derive-append, derive-split}
 use Rattle.derivations.specs.Minima.{FirstPlace}
-use Rattle.derivations.specs.Least.{total, Least, Opening, opening-below, rule-below-count, carry-fits}
+use Rattle.derivations.specs.Least.{total, Least, Opening, opening-below, rules-below, carry-fits}
 
 -- equal, or smaller at the first place where they differ (of two lists that are read against the same items neither begins the other)
 abbrev pub Lex : List ℕ → List ℕ → Type 0
@@ -129,7 +129,7 @@ module _ {P : Instance} {C : ℕ} (L : Lawful P C) (a cap : ℕ) where
       low : (xs : List ℕ) (q : Price) → derive P xs (g ∷ gs) c ≡ some q → total a v (priceOf (P .weight r) m ⊞ p) ≤ total a v q
       low [] q h = absurd (Option·none-ne-some _ h)
       low (i ∷ xs) q h =
-          let k = rule-below-count L g gs c i xs q h in
+          let k = rules-below L (i ∷ xs) (g ∷ gs) c q h .0 in
           omega (arith, ef, lo i k, opening-below P a cap g gs v c i (f i) (o i k) xs q h)
 
       back : (i : ℕ) (xs : List ℕ) (n : Expansion) (q : Price) → r ≡ i → n ≡ m → derive P xs (n .parts ++ gs) (n .carry) ≡ some q
@@ -146,7 +146,7 @@ module _ {P : Instance} {C : ℕ} (L : Lawful P C) (a cap : ℕ) where
           → Lex (r ∷ bs) xs
       lex [] q h k = absurd (Option·none-ne-some _ h)
       lex (i ∷ xs) q h k =
-          let hi = rule-below-count L g gs c i xs q h in
+          let hi = rules-below L (i ∷ xs) (g ∷ gs) c q h .0 in
           let hf : f i ≤ total a v q = opening-below P a cap g gs v c i (f i) (o i hi) xs q h in
           elim (decLt r i) [
             | yes ri ↦ inl ri

@@ -6,6 +6,7 @@ use mathlib.Core.List.{List, [], _∷_, _++_}
 use mathlib.Core.Option.{Option, none, some, Option·none-ne-some}
 use native.Mathlib.Decide.{decLt}
 use native.Mathlib.Omega.{arith}
+use Rattle.slices.specs.Every.{Every}
 use Rattle.derivations.specs.Derivation.{Item, Expansion, Price, Instance, Lawful, derive, unspent, priceOf, _⊞_}
 use Rattle.derivations.specs.Derivation.{derive-nil, derive-cons, cons-derive, derive-rec, derive-append, derive-split}
 use Rattle.derivations.specs.Minima.{lowest, lowest-le, lowest-at, only, only-same, only-below}
@@ -80,15 +81,17 @@ module _ (P : Instance) (a cap : ℕ) where
           (b₁ ++ b₂, p₁ ⊞ p₂, derive-append P b₁ b₂ g₁ g₂ c p₁ p₂ h₁ (rw em h₂), omega (arith, rw em at e₁, only-same cap m))
 
 module _ {P : Instance} {C : ℕ} (L : Lawful P C) where
-  -- a list that is read opens with a rule below `count`
-  pub rule-below-count : (g : Item) (gs : List Item) (c r : ℕ) (bs : List ℕ) (p : Price) → derive P (r ∷ bs) (g ∷ gs) c ≡ some p
-      → r < P .count
-  rule-below-count g gs c r bs p h = elim (decLt r (P .count)) [
+  -- a rule that makes an expansion is below `count`
+  expands-below : (g : Item) (c r : ℕ) (m : Expansion) → P .expand g c r ≡ some m → r < P .count
+  expands-below g c r m e = elim (decLt r (P .count)) [
     | yes k ↦ k
-    | no k ↦
-        let (m, q, hm, hd, e) = derive-cons P r bs g gs c p h in
-        absurd (Option·none-ne-some _ (sym (L .ends g c r (omega arith)) ∙ hm))
+    | no k ↦ absurd (Option·none-ne-some _ (sym (L .ends g c r (omega arith)) ∙ e))
   ]
+
+  -- so is every rule of a list that is read
+  pub rules-below : (bs : List ℕ) (gs : List Item) (c : ℕ) (p : Price) → derive P bs gs c ≡ some p → Every (λ r. r < P .count) bs
+  rules-below =
+      derive-rec P (λ bs gs c p. Every (λ r. r < P .count) bs) (λ c. tt) (λ r bs g gs c m q hm hd ih. (expands-below g c r m hm, ih))
 
   -- the carry state behind a list that is read is below C
   pub carry-fits : (bs : List ℕ) (gs : List Item) (c : ℕ) (p : Price) → derive P bs gs c ≡ some p → c < C → p .carry < C
@@ -104,7 +107,7 @@ module _ {P : Instance} {C : ℕ} (L : Lawful P C) where
         low : (bs : List ℕ) (p : Price) → derive P bs (g ∷ gs) c ≡ some p → lowest cap f (P .count) ≤ total a v p
         low [] p h = absurd (Option·none-ne-some _ h)
         low (r ∷ bs) p h =
-            let k = rule-below-count g gs c r bs p h in
+            let k = rules-below (r ∷ bs) (g ∷ gs) c p h .0 in
             omega (arith, lowest-le cap f (P .count) r k, opening-below P a cap g gs v c r (f r) (o r k) bs p h)
 
         get : lowest cap f (P .count) < cap → Reached P a (g ∷ gs) v c (lowest cap f (P .count))

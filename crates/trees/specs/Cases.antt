@@ -1,5 +1,6 @@
--- The eight cases of document 01 ("The sheet S and its neighbours"), and for each of its five traps a text on which the trap would answer
--- differently. Each text is read by `readSheet`. Here the answers are computed; `CasesHold.all-hold` says what they mean.
+-- The eight cases of document 01 ("The sheet S and its neighbours"), for each of its five traps a text on which the trap would answer
+-- differently, and one or more for each other point of "Valid trees". Each text is read by `readSheet`. Here the answers are computed;
+-- `CasesHold.all-hold` says what they mean.
 use Prim.Native.Nat.{ℕ, _+_}
 use mathlib.Core.Path.{_≡_, refl}
 use mathlib.Core.Bool.{Bool, true, false, not, _&&_}
@@ -123,8 +124,57 @@ receiving =
 abbrev only-receives : List Case
 only-receives = case receiving (least (0 ∷ 1 ∷ 5 ∷ []) 7 4080 4087) ∷ case receiving (no-valid (0 ∷ 1 ∷ 2 ∷ 3 ∷ 4 ∷ [])) ∷ []
 
+-- ---- the other points of the section
+
+-- "each rule before its parts [..] complete and with nothing after it": no byte, a byte short, a byte long, parts first; a rule past the
+-- last; a rule with another head, at the root and at a part
+abbrev writings : List Case
+writings =
+    map (λ (bs : List ℕ). case S (no-valid bs)) (
+    []
+    ∷ (1 ∷ 3 ∷ [])
+    ∷ (1 ∷ 3 ∷ 3 ∷ 3 ∷ [])
+    ∷ (3 ∷ 3 ∷ 1 ∷ [])
+    ∷ (4 ∷ [])
+    ∷ (2 ∷ [])
+    ∷ (1 ∷ 0 ∷ 3 ∷ [])
+    ∷ [])
+
+-- "Late ones, at most three": three onsets in the second half of the first part, and four
+abbrev late-ones : ℕ → List ℕ
+late-ones n = textOf "4703000001\n44000000020102\n4C01000000\n4C02000003\n4501001E8480\n" ++ times n (textOf "4E000915273C40\n")
+
+abbrev three-late : List Case
+three-late = case (late-ones 3) (priced (0 ∷ 1 ∷ 2 ∷ []) 0 12240) ∷ case (late-ones 4) (no-valid (0 ∷ 1 ∷ 2 ∷ [])) ∷ []
+
+-- "n = m for m up to 2": two at once; "k equal parts": an onset on the second third
+abbrev two-placed : List Case
+two-placed =
+    case (textOf "4701000001\n4C00000202\n4501001E8480\n" ++ times 2 (textOf "4E000000003C40\n")) (least (0 ∷ []) 2 0 2) ∷ []
+
+abbrev thirds : List Case
+thirds =
+    case
+    (textOf "4702000001\n4400000003010101\n4C01000000\n4C01000001\n4501001E8480\n4E000A2C2B3C40\n")
+    (least (0 ∷ 1 ∷ 2 ∷ 1 ∷ []) 0 0 0)
+    ∷ []
+
+-- "only if k divides the length": an eighth of an eighth has 315 units, which 3 divides and 2 does not
+abbrev eighths : List ℕ
+eighths =
+    textOf "4701000001\n44000000080000000000000000\n44000000020000\n4400000003000000\n4C00000000\n4C00000001\n"
+    ++ textOf "4501001E8480\n4E000000003C40\n"
+
+abbrev uneven : List Case
+uneven =
+    case eighths (priced (0 ∷ 0 ∷ 2 ∷ 4 ∷ 3 ∷ 3 ∷ replicate 14 3) 0 0)
+    ∷ case eighths (no-valid (0 ∷ 0 ∷ 1 ∷ 4 ∷ 3 ∷ replicate 14 3))
+    ∷ []
+
 abbrev pub cases : List Case
-cases = paper ++ middle ++ four-placed ++ second-best ++ over-bar-line ++ only-receives
+cases =
+    paper ++ middle ++ four-placed ++ second-best ++ over-bar-line ++ only-receives
+    ++ writings ++ three-late ++ two-placed ++ thirds ++ uneven
 
 -- the computed answers agree with every case
 pub all-computed : map holds cases ≡ replicate (length cases) true

@@ -22,9 +22,8 @@ use Rattle.trees.specs.LeastTotal.{NONE, leastTotal}
 use Rattle.trees.specs.Cases.{Verdict, least, no-tree, priced, no-valid, Case, pricedAs, isTree, judged, judgedOf}
 use Rattle.trees.specs.Cases.{holds, cases, all-computed}
 use Rattle.trees.specs.Equivalence.{valid-derived, derived-valid}
-use Rattle.trees.specs.Found.{LeastTree, least-total-below}
+use Rattle.trees.specs.Found.{LeastTree, own-price, least-total-below}
 use Rattle.trees.specs.Theorems.{none-valid}
-use Rattle.trees.specs.Found as found
 
 -- what a verdict says of a sheet
 abbrev pub Says : Sheet → Verdict → Type 0
@@ -56,7 +55,7 @@ module _ (s : Sheet) where
 
   is-tree : (bs : List ℕ) → ValidTree s bs → isTree s bs ≡ true
   unfolding isTree Derived
-  is-tree bs v = let (R, D, p) = found.priced s bs v in rw (valid-derived s bs R D p, isTree) refl
+  is-tree bs v = let (R, D, p) = own-price s bs v in rw (valid-derived s bs R D p, isTree) refl
 
   module _ (d : ℕ) (ok : Good d s) where
     judged-says : (v : Verdict) → judged s v ≡ true → Says s v
@@ -88,6 +87,6 @@ every-true : (cs : List Case) → map holds cs ≡ replicate (length cs) true �
 every-true [] e = tt
 every-true (c ∷ cs) e = (holds-means c (head-eq-of-cons-eq e), every-true cs (tail-eq-of-cons-eq e))
 
--- the eight cases of the paper and those of the traps
+-- the eight cases of the paper, those of the traps and those of the other points
 pub all-hold : Every Holds cases
 all-hold = every-true cases all-computed

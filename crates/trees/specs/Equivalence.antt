@@ -1,20 +1,17 @@
 -- A list is derived at a price exactly when it is a valid tree with that R and D. Nothing is asked of the sheet.
-use Prim.Native.Nat.{ℕ, zero, suc, _/_, _<_}
+use Prim.Native.Nat.{ℕ, _/_}
 use mathlib.Core.Path.{_≡_, refl, sym, ap, _∙_}
 use mathlib.Core.Bool.{true}
 use mathlib.Core.List.{List, [], _∷_, append-nil}
-use mathlib.Core.Logic.{inl, inr}
-use mathlib.Core.Option.{some, Option·none-ne-some}
+use mathlib.Core.Option.{some}
 use native.Mathlib.Nat.{zero-add, suc-ne-zero}
-use native.Mathlib.Omega.{arith}
-use lib.ListN.{length, length-append, getElem?}
-use Rattle.slices.specs.Every.{Every}
+use lib.ListN.{length, length-append}
 use Rattle.sheet.specs.Sheet.{division, leaf, Onset, Sheet}
-use Rattle.derivations.specs.Derivation.{Item, Expansion, Price, derive, unspent, price-eq, cons-derive, derive-append, derive-rec}
+use Rattle.derivations.specs.Derivation.{Item, Expansion, Price, derive, unspent, price-eq, cons-derive, derive-append}
 use Rattle.trees.specs.ValidTrees.{Forest, Tree, written, writtenAll, early, row, bars, ruleAt, mayDivide, Leaf, byLeaf}
 use Rattle.trees.specs.ValidTrees.{byDivision, ParsedAll, none, next, placedFrom, carriedOut, ValidTree, ruleWeight, Priced}
 use Rattle.trees.specs.Instance.{atLeaf, atDivision, instanceOf, Derived}
-use Rattle.trees.specs.Expansions.{LeafStep, DivisionStep, Step, leaf-expands, division-expands, step-of}
+use Rattle.trees.specs.Expansions.{LeafStep, DivisionStep, leaf-expands, division-expands}
 use Rattle.trees.specs.Placing.{ownDistances, distance-own}
 use Rattle.trees.specs.Fits.{Fits, priceFrom, fits-split, price-append}
 use Rattle.trees.specs.Readings.{Reading, derived-read}
@@ -125,22 +122,3 @@ derived-valid s bs R D e = go (derived-read s bs (bars s) 0 price e [] refl)
           weight = sym (ap (λ p. p .weight) (d .comes-to));
           distance = distance-own s (d .parsed) out ∙ sym (ap (λ p. p .distance) (d .comes-to));
         }
-
--- ---- the numbers of a valid tree are rules
-
-at-below : {A : Type 0} (xs : List A) (i : ℕ) (x : A) → getElem? xs i ≡ some x → i < length xs
-at-below [] i x e = absurd (Option·none-ne-some _ e)
-at-below (y ∷ xs) zero x e = omega arith
-at-below (y ∷ xs) (suc i) x e = omega (arith, at-below xs i x e)
-
-step-below : (s : Sheet) (g : Item) (c r : ℕ) (m : Expansion) → Step s g c r m → r < length (s .grammar .rules)
-step-below s g c r m (inl l) = at-below (s .grammar .rules) r _ (l .rule)
-step-below s g c r m (inr d) = at-below (s .grammar .rules) r _ (d .rule)
-
--- so they are bytes, since a sheet has at most 64 rules
-pub valid-bytes : (s : Sheet) (bs : List ℕ) → ValidTree s bs → Every (λ r. r < length (s .grammar .rules)) bs
-unfolding Derived
-valid-bytes s bs v =
-    derive-rec (instanceOf s) (λ xs gs c p. Every (λ r. r < length (s .grammar .rules)) xs) (λ c. tt)
-    (λ r xs g gs c m q e k ih. (step-below s g c r m (step-of s g c r m e), ih)) bs (bars s) 0 _
-    (valid-derived s bs _ _ (record { valid = v; weight = refl; distance = refl }))

@@ -15,11 +15,11 @@ use Rattle.slices.specs.Test.{and-both}
 use Rattle.sheet.specs.Sheet.{Rule, division, leaf, Sheet}
 use Rattle.derivations.specs.Derivation.{Item, Expansion}
 use Rattle.trees.specs.ValidTrees.{inside, ruleAt, mayDivide, token}
-use Rattle.trees.specs.Instance.{earlyCount, lateCount, atLeaf, atDivision, expandBy, instanceOf}
+use Rattle.trees.specs.Instance.{onsetsIn, earlyCount, lateCount, atLeaf, atDivision, expandBy, instanceOf}
 
 -- what a division that is allowed tells: "k divides the length and at least one onset lies inside"
-pub may-divide : (s : Sheet) (k left len : ℕ) → mayDivide s k left len ≡ true → (len % k ≡ 0) × (0 < length (inside s left len))
-unfolding mayDivide
+pub may-divide : (s : Sheet) (k left len : ℕ) → mayDivide s k left len ≡ true → (len % k ≡ 0) × (0 < onsetsIn s left len)
+unfolding mayDivide onsetsIn
 may-divide s k left len e =
     let p = and-both (eqb (len % k) 0) (ltb 0 (length (inside s left len))) e in
     (eqb-true _ _ (p .0), ltb-true _ _ (p .1))

@@ -22,8 +22,8 @@ use Rattle.trees.specs.Laws.{lawful, falls}
 use Rattle.trees.specs.Equivalence.{valid-derived, derived-valid}
 
 -- a valid list has its own R and D
-pub priced : (s : Sheet) (bs : List ℕ) → ValidTree s bs → (R : ℕ) × (D : ℕ) × Priced s bs R D
-priced s bs v = (_, _, record { valid = v; weight = refl; distance = refl })
+pub own-price : (s : Sheet) (bs : List ℕ) → ValidTree s bs → (R : ℕ) × (D : ℕ) × Priced s bs R D
+own-price s bs v = (_, _, record { valid = v; weight = refl; distance = refl })
 
 module _ (s : Sheet) where
   -- of all valid trees none totals less

@@ -14,6 +14,11 @@ use Rattle.trees.specs.ValidTrees.{inside, early, late, row, bars, ruleA
 -- A late onset is placed at the next leaf's left bound, which is this leaf's right bound. So its distance belongs to the leaf that it lies
 -- in, and of the onsets carried in only their number matters.
 module _ (s : Sheet) (left len : ℕ) where
+  -- how many onsets lie inside, how many of them are early, how many late
+  unfoldable pub onsetsIn : ℕ
+  unfolding inside
+  onsetsIn = length (inside s left len)
+
   unfoldable pub earlyCount : ℕ
   unfolding early inside
   earlyCount = length (early s left len)
@@ -22,6 +27,7 @@ module _ (s : Sheet) (left len : ℕ) where
   unfolding late inside
   lateCount = length (late s left len)
 
+  -- how far they are from their places
   unfoldable pub ownDistance : ℕ
   unfolding early late inside
   ownDistance = distanceTo left (early s left len) + distanceTo (left + len) (late s left len)

@@ -2,7 +2,6 @@
 -- inside name the interval.
 use Prim.Native.Nat.{ℕ, _+_, _-_, _*_, _/_, _%_, _≤_, _<_}
 use mathlib.Core.Path.{_≡_, sym, ap, _∙_}
-use mathlib.Core.Logic.{inl, inr}
 use mathlib.Core.Option.{some}
 use native.Mathlib.Nat.{mul-assoc, add-mul, mul-add-div-right, div-eq-of-lt, add-zero, mul-le-mul-right, suc-mul}
 use native.Mathlib.Omega.{arith}
@@ -11,9 +10,9 @@ use Rattle.slices.specs.Every.{Every, every-some}
 use Rattle.sheet.specs.Sheet.{Sheet, barUnits}
 use Rattle.derivations.specs.Derivation.{Item, Expansion}
 use Rattle.trees.specs.ValidTrees.{bars}
-use Rattle.trees.specs.Instance.{atLeaf, atDivision, instanceOf}
-use Rattle.trees.specs.Expansions.{Step, may-divide, parts-whole, step-of}
-use Rattle.trees.specs.Laws.{row-every}
+use Rattle.trees.specs.Instance.{instanceOf}
+use Rattle.trees.specs.Expansions.{may-divide, parts-whole}
+use Rattle.trees.specs.Laws.{row-every, partOf, each-part}
 
 -- an item of the bar that begins at `start`: its left bound is a multiple of its length from there, and it ends inside the bar
 pub record Aligned (start : ℕ) (g : Item) : Type 0 where
@@ -23,7 +22,7 @@ pub record Aligned (start : ℕ) (g : Item) : Type 0 where
 
 -- part j of k: the (times × k + j)-th interval of its length
 aligned-part : (start : ℕ) (g : Item) (k j q : ℕ) → Aligned start g → g .len % k ≡ 0 → j < k
-    → Aligned start (record { nonterminal = q; left = g .left + j * (g .len / k); len = g .len / k })
+    → Aligned start (partOf g k j q)
 aligned-part start g k j q a z h = record { times = a .times * k + j; is = same; ends = inside }
   where
     p : ℕ
@@ -42,15 +41,9 @@ module _ (s : Sheet) where
   -- the parts of every expansion lie so if the item does
   pub aligned-parts : (start : ℕ) (g : Item) (c r : ℕ) (m : Expansion) → instanceOf s .expand g c r ≡ some m → Aligned start g
       → Every (Aligned start) (m .parts)
-  unfolding atLeaf atDivision
-  aligned-parts start g c r m e a = go (step-of s g c r m e)
-    where
-      go : Step s g c r m → Every (Aligned start) (m .parts)
-      go (inl l) = rw (l .is) tt
-      go (inr d) =
-          let z = may-divide s (length (d .kids)) (g .left) (g .len) (d .allowed) .0 in
-          rw (d .is)
-          (row-every _ (g .left) (g .len / length (d .kids)) (d .kids) (λ j q h. aligned-part start g (length (d .kids)) j q a z h))
+  aligned-parts start g c r m e a =
+      each-part s (Aligned start) g c r m e
+      (λ w ks rule d j q h. aligned-part start g (length ks) j q a (may-divide s (length ks) (g .left) (g .len) d .0) h)
 
   -- the items of a sheet: the bars, and the parts of each expansion of an item
   pub data Occurs : Item → Type 0 where

@@ -2,21 +2,22 @@
 -- to its parts.
 use Prim.Native.Nat.{ℕ, zero, suc, _+_, _-_, _*_, _/_, _≤_, _<_}
 use mathlib.Core.Path.{_≡_, refl, subst}
+use mathlib.Core.Bool.{true}
 use mathlib.Core.List.{List, [], _∷_}
 use mathlib.Core.Logic.{inl, inr}
-use mathlib.Core.Option.{none, Option·elim}
+use mathlib.Core.Option.{none, some, Option·elim}
 use native.Mathlib.Nat.{not-suc-le-zero, le-of-suc-le-suc, div-lt-self}
 use native.Mathlib.Omega.{arith}
 use lib.ListN.{length, getElem?}
 use Rattle.slices.specs.Every.{Every}
-use Rattle.sheet.specs.Sheet.{Sheet}
+use Rattle.sheet.specs.Sheet.{division, Sheet}
 use Rattle.sheet.specs.Good.{GoodRules}
 use Rattle.derivations.specs.Derivation.{Item, Expansion, Lawful}
 use Rattle.derivations.specs.Cells.{Falls}
-use Rattle.trees.specs.ValidTrees.{row}
+use Rattle.trees.specs.ValidTrees.{row, ruleAt, mayDivide}
 use Rattle.trees.specs.Instance.{atLeaf, atDivision, instanceOf}
-use Rattle.trees.specs.Expansions.{Step, may-divide, step-of}
-use Rattle.trees.specs.Onsets.{len-positive, inside-some}
+use Rattle.trees.specs.Expansions.{Step, step-of}
+use Rattle.trees.specs.Onsets.{divided-long}
 use Rattle.trees.specs.Room.{good-division}
 
 -- past the end there is no rule
@@ -35,6 +36,10 @@ row-every X l p (q ∷ qs) h =
     at-left : {x y k : ℕ} → x ≡ y → X (record { nonterminal = k; left = x; len = p }) → X (record { nonterminal = k; left = y; len = p })
     at-left {k = k} e t = subst (λ (z : ℕ). X (record { nonterminal = k; left = z; len = p })) e t
 
+-- part j of the item g, divided into k, under nonterminal q
+abbrev pub partOf : Item → (k j q : ℕ) → Item
+partOf g k j q = record { nonterminal = q; left = g .left + j * (g .len / k); len = g .len / k }
+
 module _ (s : Sheet) where
   -- four carry states: the carry never passes 3
   pub lawful : Lawful (instanceOf s) 4
@@ -45,17 +50,22 @@ module _ (s : Sheet) where
       fits g c r m h (inl l) = rw (l .is) (omega (arith, l .few-late))
       fits g c r m h (inr d) = rw (d .is) h
 
-  module _ (good : GoodRules (s .grammar)) where
-    -- a division's parts are shorter: it has two or more, and an onset lies inside
-    pub falls : Falls (instanceOf s) (λ g. g .len)
-    unfolding atLeaf atDivision
-    falls g c r m e = go (step-of s g c r m e)
-      where
-        go : Step s g c r m → Every (λ (h : Item). h .len < g .len) (m .parts)
-        go (inl l) = rw (l .is) tt
-        go (inr d) =
-            let k = good-division s good r (g .nonterminal) (d .weight) (d .kids) (d .rule) in
-            let o = may-divide s (length (d .kids)) (g .left) (g .len) (d .allowed) .1 in
-            rw (d .is)
-            (row-every _ (g .left) (g .len / length (d .kids)) (d .kids)
-            (λ j q h. div-lt-self (len-positive s (g .left) (g .len) (inside-some s (g .left) (g .len) o)) (k .two)))
+  -- a property of the parts of each expansion, by their places: a leaf has none, a division its k
+  pub each-part : (X : Item → Type 0) (g : Item) (c r : ℕ) (m : Expansion) → instanceOf s .expand g c r ≡ some m
+      → ((w : ℕ) (ks : List ℕ) → ruleAt s r ≡ some (division (g .nonterminal) w ks) → mayDivide s (length ks) (g .left) (g .len) ≡ true
+      → (j q : ℕ) → j < length ks → X (partOf g (length ks) j q))
+      → Every X (m .parts)
+  unfolding atLeaf atDivision
+  each-part X g c r m e h = go (step-of s g c r m e)
+    where
+      go : Step s g c r m → Every X (m .parts)
+      go (inl l) = rw (l .is) tt
+      go (inr d) =
+          rw (d .is) (row-every X (g .left) (g .len / length (d .kids)) (d .kids) (h (d .weight) (d .kids) (d .rule) (d .allowed)))
+
+  -- a division's parts are shorter: it has two or more, and an onset lies inside
+  pub falls : GoodRules (s .grammar) → Falls (instanceOf s) (λ g. g .len)
+  falls good g c r m e =
+      each-part (λ (h : Item). h .len < g .len) g c r m e
+      (λ w ks rule d j q i.
+      div-lt-self (divided-long s (length ks) (g .left) (g .len) d) (good-division s good r (g .nonterminal) w ks rule .two))

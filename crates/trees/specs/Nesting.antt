@@ -9,10 +9,8 @@ use Rattle.sheet.specs.Good.{GoodRules}
 use Rattle.derivations.specs.Derivation.{Item}
 use Rattle.trees.specs.ValidTrees.{Tree, Forest, node, nil, cons, bars, Leaf, byLeaf, byDivision, ParsedAll, none, next}
 use Rattle.trees.specs.ValidTrees.{ValidTree}
-use Rattle.trees.specs.Expansions.{may-divide}
-use Rattle.trees.specs.Onsets.{len-positive, inside-some}
-use Rattle.trees.specs.Depth.{depth, depth-bar, depth-falls}
-use Rattle.trees.specs.Room.{good-division}
+use Rattle.trees.specs.Depth.{depth, depth-bar}
+use Rattle.trees.specs.Room.{division-deep}
 use Rattle.trees.specs.Laws.{row-every}
 
 -- over the trees below a root: one for the root's division, none where there is no tree
@@ -43,11 +41,8 @@ module _ (s : Sheet) (good : GoodRules (s .grammar)) where
       (λ ts gs ls q. (n : ℕ) → Every (λ (g : Item). depth (g .len) ≤ n) gs → nestingAll ts ≤ n) [
         | byLeaf r h w n g e f ↦ omega arith
         | byDivision r h w ks g ts ls e f d (q → ih) ↦
-            let k = good-division s good r h w ks e in
-            let (z, o) = may-divide s (length ks) (g .left) (g .len) d in
-            let long = len-positive s (g .left) (g .len) (inside-some s (g .left) (g .len) o) in
             let below = ih (depth (g .len / length ks)) (row-every _ (g .left) (g .len / length ks) ks (λ j c i. omega arith)) in
-            omega (arith, below, under-most ts (nestingAll ts), depth-falls (length ks) (k .two) (k .eight) (g .len) long z)
+            omega (arith, below, under-most ts (nestingAll ts), division-deep s good r h w ks (g .left) (g .len) e d)
         | none ↦ λ n every. omega arith
         | next t g ls ts gs ms (q → ih) (qs → ihs) ↦ λ n every. omega (arith, ih, ihs n (every .1), every .0)
       ]

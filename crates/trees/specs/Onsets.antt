@@ -1,56 +1,47 @@
 -- Counting the onsets of intervals: they add up over parts in a row, each is early or late, and none is farther from a bound than the
 -- interval is long.
 use Prim.Native.Nat.{ℕ, zero, suc, _+_, _-_, _*_, _≤_, _<_}
-use mathlib.Core.Path.{_≡_, refl}
-use mathlib.Core.Bool.{Bool, true, false, cond, not}
+use mathlib.Core.Path.{_≡_, refl, sym, subst, _∙_}
+use mathlib.Core.Bool.{Bool, true, false, cond, not, _||_, false≢true}
 use mathlib.Core.List.{List, [], _∷_}
-use native.Mathlib.Decide.{decLt}
-use native.Mathlib.Nat.{add-zero, mul-add}
+use native.Mathlib.Nat.{add-assoc, add-zero, mul-add}
 use native.Mathlib.Omega.{arith}
 use lib.Dec.{leb, ltb}
-use borrow.Author.Tests.{lt-ltb, le-ltb, le-leb, lt-leb, leb-true, ltb-true}
+use borrow.Author.Tests.{leb-true, ltb-true}
 use lib.ListN.{length}
 use Rattle.slices.specs.Every.{Every, every-weaken}
 use Rattle.slices.specs.Test.{and-both}
 use Rattle.sheet.specs.Sheet.{Onset, Sheet}
-use Rattle.trees.specs.ValidTrees.{whose, contains, isEarly, inside, early, late, apart, distanceTo}
-use Rattle.trees.specs.Instance.{earlyCount, lateCount, ownDistance}
-
--- the number of onsets inside
-unfoldable pub onsetsIn : Sheet → (left len : ℕ) → ℕ
-onsetsIn s left len = length (inside s left len)
-
--- 1 where a test passes
-abbrev bit : Bool → ℕ
-bit b = cond b 1 0
+use Rattle.trees.specs.ValidTrees.{whose, contains, isEarly, inside, early, late, mayDivide, apart, distanceTo}
+use Rattle.trees.specs.Instance.{onsetsIn, earlyCount, lateCount, ownDistance}
+use Rattle.trees.specs.Expansions.{may-divide}
+use Rattle.trees.specs.Order.{Parts, whose-both, within, intervals, halves}
 
 -- ---- lists of onsets that pass a test
 
--- a test that passes exactly where one of two does, and never both
-whose-add : (t t₁ t₂ : ℕ → Bool) → ((u : ℕ) → bit (t u) ≡ bit (t₁ u) + bit (t₂ u)) → (os : List Onset)
-    → length (whose t os) ≡ length (whose t₁ os) + length (whose t₂ os)
+-- a test that passes where one of two does, and never both
+whose-add : (first second whole : ℕ → Bool) → Parts first second whole → (os : List Onset)
+    → length (whose whole os) ≡ length (whose first os) + length (whose second os)
 unfolding whose
-whose-add t t₁ t₂ e [] = refl
-whose-add t t₁ t₂ e (o ∷ os) = go (t (o .unit)) (t₁ (o .unit)) (t₂ (o .unit)) (e (o .unit)) (whose-add t t₁ t₂ e os)
+whose-add first second whole p [] = refl
+whose-add first second whole p (o ∷ os) =
+    rw (p .either (o .unit)) (go (first (o .unit)) (second (o .unit)) refl refl (whose-add first second whole p os))
   where
-    count : (b : Bool) (xs : List Onset) → length (cond b (o ∷ xs) xs) ≡ bit b + length xs
-    count true xs = omega arith
-    count false xs = omega arith
+    go : (a b : Bool) → first (o .unit) ≡ a → second (o .unit) ≡ b
+        → length (whose whole os) ≡ length (whose first os) + length (whose second os)
+        → length (cond (a || b) (o ∷ whose whole os) (whose whole os))
+        ≡ length (cond a (o ∷ whose first os) (whose first os)) + length (cond b (o ∷ whose second os) (whose second os))
+    go true true e f ih = absurd (false≢true (sym (p .no-more (o .unit) (o .unit) (omega arith) f) ∙ e))
+    go true false e f ih = omega arith
+    go false true e f ih = omega arith
+    go false false e f ih = ih
 
-    go : (a b c : Bool) → bit a ≡ bit b + bit c → length (whose t os) ≡ length (whose t₁ os) + length (whose t₂ os)
-        → length (cond a (o ∷ whose t os) (whose t os))
-        ≡ length (cond b (o ∷ whose t₁ os) (whose t₁ os)) + length (cond c (o ∷ whose t₂ os) (whose t₂ os))
-    go a b c h ih = omega (arith, h, ih, count a (whose t os), count b (whose t₁ os), count c (whose t₂ os))
-
--- each passes a test or fails it
-whose-parted : (t : ℕ → Bool) (os : List Onset) → length (whose t os) + length (whose (λ u. not (t u)) os) ≡ length os
+whose-fewer : (t : ℕ → Bool) (os : List Onset) → length (whose t os) ≤ length os
 unfolding whose
-whose-parted t [] = refl
-whose-parted t (o ∷ os) = go (t (o .unit)) (whose-parted t os)
+whose-fewer t [] = omega arith
+whose-fewer t (o ∷ os) = go (t (o .unit)) (whose-fewer t os)
   where
-    go : (b : Bool) → length (whose t os) + length (whose (λ u. not (t u)) os) ≡ length os
-        → length (cond b (o ∷ whose t os) (whose t os)) + length (cond (not b) (o ∷ whose (λ u. not (t u)) os) (whose (λ u. not (t u)) os))
-        ≡ suc (length os)
+    go : (b : Bool) → length (whose t os) ≤ length os → length (cond b (o ∷ whose t os) (whose t os)) ≤ suc (length os)
     go true ih = omega arith
     go false ih = omega arith
 
@@ -81,69 +72,37 @@ distance-most place d (o ∷ os) h = omega (arith, h .0, distance-most place d o
 
 -- ---- an interval and its parts
 
-contains-in : (l n u : ℕ) → l ≤ u → u < l + n → contains l n u ≡ true
-contains-in l n u h k = rw (le-leb l u h) (lt-ltb u (l + n) k)
-
-contains-left : (l n u : ℕ) → u < l → contains l n u ≡ false
-contains-left l n u h = rw (lt-leb l u h) refl
-
-contains-right : (l n u : ℕ) → l ≤ u → l + n ≤ u → contains l n u ≡ false
-contains-right l n u h k = rw (le-leb l u h) (le-ltb u (l + n) k)
-
 contains-bounds : (l n u : ℕ) → contains l n u ≡ true → (l ≤ u) × (u < l + n)
 contains-bounds l n u e = let p = and-both (leb l u) (ltb u (l + n)) e in (leb-true _ _ (p .0), ltb-true _ _ (p .1))
-
-contains-add : (l p q u : ℕ) → bit (contains l (p + q) u) ≡ bit (contains l p u) + bit (contains (l + p) q u)
-contains-add l p q u = elim (decLt u l) [
-  | yes h ↦ rw (contains-left l (p + q) u h, contains-left l p u h, contains-left (l + p) q u (omega arith)) refl
-  | no h ↦ elim (decLt u (l + p)) [
-    | yes k ↦
-        rw (contains-in l (p + q) u (omega arith) (omega arith), contains-in l p u (omega arith) k, contains-left (l + p) q u k) refl
-    | no k ↦ elim (decLt u (l + p + q)) [
-      | yes j ↦
-          rw (
-            contains-in l (p + q) u (omega arith) (omega arith),
-            contains-right l p u (omega arith) (omega arith),
-            contains-in (l + p) q u (omega arith) j,
-          )
-          refl
-      | no j ↦
-          rw (
-            contains-right l (p + q) u (omega arith) (omega arith),
-            contains-right l p u (omega arith) (omega arith),
-            contains-right (l + p) q u (omega arith) (omega arith),
-          )
-          refl
-    ]
-  ]
-]
 
 module _ (s : Sheet) where
   -- the onsets of two intervals, one behind the other
   pub onsets-add : (l p q : ℕ) → onsetsIn s l (p + q) ≡ onsetsIn s l p + onsetsIn s (l + p) q
   unfolding onsetsIn inside
-  onsets-add l p q = whose-add (contains l (p + q)) (contains l p) (contains (l + p) q) (contains-add l p q) (s .playing .onsets)
+  onsets-add l p q =
+      subst (λ (r : ℕ). length (whose (within l r) (s .playing .onsets)) ≡ onsetsIn s l p + onsetsIn s (l + p) q) (add-assoc l p q)
+      (whose-add (within l (l + p)) (within (l + p) (l + p + q)) (within l (l + p + q))
+      (intervals l (l + p) (l + p + q) (omega arith) (omega arith)) (s .playing .onsets))
 
   pub onsets-none : (l : ℕ) → onsetsIn s l 0 ≡ 0
   onsets-none l = omega (arith, rw (add-zero l) at (onsets-add l 0 0))
 
-  pub inside-some : (l n : ℕ) → 0 < length (inside s l n) → 0 < onsetsIn s l n
-  unfolding onsetsIn
-  inside-some l n h = h
-
-  -- an interval with an onset inside has a length
-  pub len-positive : (l n : ℕ) → 0 < onsetsIn s l n → 0 < n
-  len-positive l zero h = omega (arith, onsets-none l)
-  len-positive l (suc n) h = omega arith
-
   pub onsets-most : (l n : ℕ) → onsetsIn s l n ≤ length (s .playing .onsets)
   unfolding onsetsIn inside
-  onsets-most l n = omega (arith, whose-parted (contains l n) (s .playing .onsets))
+  onsets-most l n = whose-fewer (contains l n) (s .playing .onsets)
+
+  -- an interval that may be divided has a length, since an onset lies inside
+  pub divided-long : (k l n : ℕ) → mayDivide s k l n ≡ true → 0 < n
+  divided-long k l zero e = omega (arith, onsets-none l, may-divide s k l 0 e .1)
+  divided-long k l (suc n) e = omega arith
 
   module _ (l n : ℕ) where
     pub early-late : earlyCount s l n + lateCount s l n ≡ onsetsIn s l n
-    unfolding earlyCount lateCount onsetsIn early late
-    early-late = whose-parted (isEarly l n) (inside s l n)
+    unfolding earlyCount lateCount onsetsIn early late inside
+    early-late =
+        let os = s .playing .onsets in
+        rw (whose-both (contains l n) (isEarly l n) os, whose-both (contains l n) (λ u. not (isEarly l n u)) os)
+        (sym (whose-add _ _ _ (halves l n) os))
 
     -- an onset inside is at most the interval's length away from a bound
     pub inside-bounds : Every (λ (o : Onset). (l ≤ o .unit) × (o .unit < l + n)) (inside s l n)

@@ -24,7 +24,7 @@ whose-none test least [] r f = refl
 whose-none test least (o ∷ os) r f = rw (f (o .unit) (r .0)) (whose-none test (o .unit) os (r .1) (λ u h. f u (omega arith)))
 
 -- of those that pass, those that pass a second test
-whose-both : (first second : ℕ → Bool) (os : List Onset) → whose second (whose first os) ≡ whose (λ u. first u && second u) os
+pub whose-both : (first second : ℕ → Bool) (os : List Onset) → whose second (whose first os) ≡ whose (λ u. first u && second u) os
 unfolding whose
 whose-both first second [] = refl
 whose-both first second (o ∷ os) = go (first (o .unit)) _ (whose-both first second os)
@@ -35,9 +35,9 @@ whose-both first second (o ∷ os) = go (first (o .unit)) _ (whose-both first se
     go false xs e = e
 
 -- a test that is passed where one of two is; from a unit on that passes the second none passes the first
-record Parts (first second whole : ℕ → Bool) : Type 0 where
-  either : (u : ℕ) → whole u ≡ (first u || second u)
-  no-more : (u v : ℕ) → u ≤ v → second u ≡ true → first v ≡ false
+pub record Parts (first second whole : ℕ → Bool) : Type 0 where
+  pub either : (u : ℕ) → whole u ≡ (first u || second u)
+  pub no-more : (u v : ℕ) → u ≤ v → second u ≡ true → first v ≡ false
 
 whose-parts : (first second whole : ℕ → Bool) → Parts first second whole → (least : ℕ) (os : List Onset) → Rising least os
     → whose first os ++ whose second os ≡ whose whole os
@@ -63,7 +63,7 @@ abbrev pub within : (left right unit : ℕ) → Bool
 within left right u = leb left u && ltb u right
 
 -- an interval in two
-intervals : (l m r : ℕ) → l ≤ m → m ≤ r → Parts (within l m) (within m r) (within l r)
+pub intervals : (l m r : ℕ) → l ≤ m → m ≤ r → Parts (within l m) (within m r) (within l r)
 intervals l m r h k = record { either = λ u. go u (decLt u m); no-more = past }
   where
     go : (u : ℕ) → Dec (u < m) → within l r u ≡ (within l m u || within m r u)
@@ -76,7 +76,7 @@ intervals l m r h k = record { either = λ u. go u (decLt u m); no-more = past }
         rw (le-ltb v m (omega arith)) (and-false (leb l v))
 
 -- the early and the late of an interval
-halves : (left len : ℕ)
+pub halves : (left len : ℕ)
     → Parts (λ u. contains left len u && isEarly left len u) (λ u. contains left len u && not (isEarly left len u)) (contains left len)
 halves left len = record { either = λ u. go (contains left len u) (isEarly left len u); no-more = past }
   where

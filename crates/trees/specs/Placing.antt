@@ -4,7 +4,6 @@ use Prim.Native.Nat.{ℕ, _+_, _*_, _/_, _≤_}
 use mathlib.Core.Path.{_≡_, refl, sym, ap, subst}
 use mathlib.Core.Bool.{true}
 use mathlib.Core.List.{List, [], _∷_, _++_, append-assoc, append-nil}
-use native.Mathlib.Nat.{div-add-mod'}
 use native.Mathlib.Omega.{arith}
 use lib.ListN.{length, replicate, length-replicate}
 use Rattle.sheet.specs.Sheet.{Onset, Sheet, barUnits}
@@ -13,7 +12,7 @@ use Rattle.derivations.specs.Derivation.{Item}
 use Rattle.trees.specs.ValidTrees.{Forest, whose, early, late, row, bars, mayDivide, Leaf, byLeaf, byDivision, ParsedAll, none, next}
 use Rattle.trees.specs.ValidTrees.{Entry, placedFrom, carriedOut, entries, ValidTree, distanceTo, distanceOf}
 use Rattle.trees.specs.Instance.{ownDistance}
-use Rattle.trees.specs.Expansions.{may-divide}
+use Rattle.trees.specs.Expansions.{may-divide, parts-whole}
 use Rattle.trees.specs.Order.{within, within-append, within-none, within-all, early-then-late}
 
 -- ---- intervals in a row
@@ -48,7 +47,7 @@ pub parts-adjoin : (s : Sheet) (left len : ℕ) (ks : List ℕ) → mayDivide s 
     → ItemsAdjoin left (row left (len / length ks) ks) (left + len)
 parts-adjoin s left len ks e =
     let k = length ks in
-    subst (ItemsAdjoin left (row left (len / k) ks)) (omega (arith, may-divide s k left len e .0, div-add-mod' len k))
+    subst (ItemsAdjoin left (row left (len / k) ks)) (ap (left +_) (parts-whole k len (may-divide s k left len e .0)))
     (row-adjoins left (len / k) ks)
 
 -- the leaves of a tree fill its item, and the leaves of a forest adjoin if its items do

@@ -2,6 +2,7 @@
 -- what its parts have is no more. So a tree of a sheet has at most B + 80 × N nodes, and no total reaches 2^49.
 use Prim.Native.Nat.{ℕ, suc, _+_, _*_, _/_, _%_, _≤_, _<_, _^_}
 use mathlib.Core.Path.{_≡_, refl, ap, _∙_}
+use mathlib.Core.Bool.{true}
 use mathlib.Core.List.{List, [], _∷_, _++_}
 use mathlib.Core.Logic.{inl, inr}
 use mathlib.Core.Option.{Option, none, some, Option·elim}
@@ -13,10 +14,10 @@ use Rattle.sheet.specs.Sheet.{Rule, division, leaf, Sheet, barUnits}
 use Rattle.sheet.specs.Good.{GoodRule, GoodRules, GoodDivision, Good}
 use Rattle.derivations.specs.Derivation.{Item, Expansion, Price, derive}
 use Rattle.derivations.specs.Bound.{sumOf, sum-append, sum-at, nodes-bound, distance-bound, weight-bound}
-use Rattle.trees.specs.ValidTrees.{row, bars, ruleAt, weightOf, weightAt, totalOf}
-use Rattle.trees.specs.Instance.{atLeaf, atDivision, instanceOf}
+use Rattle.trees.specs.ValidTrees.{row, bars, ruleAt, mayDivide, weightOf, weightAt, totalOf}
+use Rattle.trees.specs.Instance.{onsetsIn, atLeaf, atDivision, instanceOf}
 use Rattle.trees.specs.Expansions.{Step, may-divide, parts-whole, step-of}
-use Rattle.trees.specs.Onsets.{onsetsIn, onsets-add, onsets-none, onsets-most, len-positive, own-distance-most, inside-some}
+use Rattle.trees.specs.Onsets.{onsets-add, onsets-none, onsets-most, divided-long, own-distance-most}
 use Rattle.trees.specs.Depth.{depth, depth-bar, depth-falls}
 
 module _ (s : Sheet) where
@@ -68,6 +69,13 @@ module _ (s : Sheet) where
     pub good-division : (r h w : ℕ) (ks : List ℕ) → ruleAt s r ≡ some (division h w ks) → GoodDivision (s .grammar .nonterminals) h w ks
     good-division r h w ks e = every-some (GoodRule (s .grammar .nonterminals)) (s .grammar .rules) r (division h w ks) (good .rules) e
 
+    -- and each of its parts allows one division less
+    pub division-deep : (r h w : ℕ) (ks : List ℕ) (left len : ℕ) → ruleAt s r ≡ some (division h w ks)
+        → mayDivide s (length ks) left len ≡ true → suc (depth (len / length ks)) ≤ depth len
+    division-deep r h w ks left len e d =
+        let k = good-division r h w ks e in
+        depth-falls (length ks) (k .two) (k .eight) len (divided-long s (length ks) left len d) (may-divide s (length ks) left len d .0)
+
     pub room-pays : Pays (λ m. 1) room
     unfolding atLeaf atDivision
     room-pays g c r m e = go (step-of s g c r m e)
@@ -76,9 +84,8 @@ module _ (s : Sheet) where
         go (inl l) = rw (l .is) (omega arith)
         go (inr d) =
             let k = good-division r (g .nonterminal) (d .weight) (d .kids) (d .rule) in
-            let (z, some-inside) = may-divide s (length (d .kids)) (g .left) (g .len) (d .allowed) in
-            let o : 0 < onsetsIn s (g .left) (g .len) = inside-some s (g .left) (g .len) some-inside in
-            let f = depth-falls (length (d .kids)) (k .two) (k .eight) (g .len) (len-positive s (g .left) (g .len) o) z in
+            let (z, o) = may-divide s (length (d .kids)) (g .left) (g .len) (d .allowed) in
+            let f = division-deep r (g .nonterminal) (d .weight) (d .kids) (g .left) (g .len) (d .rule) (d .allowed) in
             rw (d .is, share-parts 1 (λ n. 8 * depth n) g (d .kids) z)
             (omega (arith, k .eight, o, mul-le-mul-right (onsetsIn s (g .left) (g .len)) (mul-le-mul-left 8 f)))
 

@@ -8,11 +8,12 @@ use mathlib.Core.Option.{some}
 use native.Mathlib.Decide.{decLt}
 use native.Mathlib.Omega.{arith}
 use lib.ListN.{length}
+use Rattle.slices.specs.Every.{Every}
 use Rattle.sheet.specs.Sheet.{Sheet}
 use Rattle.sheet.specs.Good.{Good}
 use Rattle.derivations.specs.Derivation.{Item, Price, derive}
 use Rattle.derivations.specs.Bound.{nodes-bound}
-use Rattle.derivations.specs.Least.{carry-fits}
+use Rattle.derivations.specs.Least.{rules-below, carry-fits}
 use Rattle.trees.specs.ValidTrees.{bars, ValidTree, Priced, totalOf}
 use Rattle.trees.specs.Instance.{instanceOf, Derived}
 use Rattle.trees.specs.LeastTotal.{NONE, leastTotal}
@@ -20,15 +21,22 @@ use Rattle.trees.specs.Room.{room, room-pays, bars-room, Stretch, stretc
 use Rattle.trees.specs.Room.{total-small}
 use Rattle.trees.specs.Laws.{lawful}
 use Rattle.trees.specs.Intervals.{Occurs, bar, part}
-use Rattle.trees.specs.Found.{LeastTree, priced, first-tree, least-total-below}
+use Rattle.trees.specs.Found.{LeastTree, own-price, first-tree, least-total-below}
 use Rattle.trees.specs.Equivalence.{valid-derived}
+
+-- the numbers of a valid tree are rule numbers; so they are bytes, a sheet having at most 64 rules (of any sheet)
+pub valid-bytes : (s : Sheet) (bs : List ℕ) → ValidTree s bs → Every (λ r. r < length (s .grammar .rules)) bs
+unfolding Derived
+valid-bytes s bs v =
+    let (R, D, p) = own-price s bs v in
+    rules-below (lawful s) bs (bars s) 0 _ (valid-derived s bs R D p)
 
 module _ (s : Sheet) (d : ℕ) (good : Good d s) where
   -- at most B + 80 × N nodes, and for a part of a tree no more than its item has room for
   pub node-count : (bs : List ℕ) → ValidTree s bs → length bs ≤ s .playing .bars + 80 * length (s .playing .onsets)
   unfolding Derived
   node-count bs v =
-      let (R, D, p) = priced s bs v in
+      let (R, D, p) = own-price s bs v in
       omega (arith, bars-room s, nodes-bound (instanceOf s) (room s) (room-pays s (good .rules)) bs (bars s) 0 _ (valid-derived s bs R D p))
 
   pub part-node-count : (bs : List ℕ) (g : Item) (c : ℕ) (p : Price) → derive (instanceOf s) bs (g ∷ []) c ≡ some p → length bs ≤ room s g
@@ -57,7 +65,7 @@ module _ (s : Sheet) (d : ℕ) (good : Good d s) where
   -- where the least total is the cap, no list of any length is a valid tree
   pub none-valid : NONE ≤ leastTotal s → (bs : List ℕ) → ValidTree s bs → ⊥
   none-valid h bs v =
-      let (R, D, p) = priced s bs v in
+      let (R, D, p) = own-price s bs v in
       omega (arith, least-total-below s (good .rules) bs R D p, total-below bs R D p)
 
   -- either no list of any length is valid, or one is least
