@@ -400,11 +400,11 @@ fn unit(time: u32, duration: u32) -> u32 {
 }
 
 #[cfg(test)]
-mod tests {
+pub mod tests {
     use super::*;
 
     /// Document 01's sheet S.
-    const S: [&str; 8] = [
+    pub const S: [&str; 8] = [
         "470200000A",
         "4C00000101",
         "44000006020101",

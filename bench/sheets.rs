@@ -1,5 +1,5 @@
-//! Sheets to compare readings on: valid ones, ones damaged on purpose, and
-//! texts that are hardly sheets at all; and one fixed sheet for timing.
+//! Sheets to compare on: valid ones, ones damaged on purpose, and texts that
+//! are hardly sheets at all; and one fixed sheet for timing the reading.
 
 /// A refusal's number and line; (0, 0) for an accepted sheet.
 pub type Outcome = (u8, u16);
@@ -12,9 +12,9 @@ pub struct Case {
 }
 
 const MAX_TEXT: usize = 16_384;
-const MAX_BAR_ONSETS: usize = 32;
-const MAX_ONSETS: usize = 512;
-const MAX_RULES: usize = 64;
+pub const MAX_BAR_ONSETS: usize = 32;
+pub const MAX_ONSETS: usize = 512;
+pub const MAX_RULES: usize = 64;
 const KINDS: [u8; 5] = [0x47, 0x44, 0x4C, 0x45, 0x4E];
 const DIGITS: &[u8; 16] = b"0123456789ABCDEF";
 
@@ -42,12 +42,12 @@ impl Dice {
         (self.next() % bound as u64) as usize
     }
 
-    fn between(&mut self, low: usize, high: usize) -> usize {
+    pub fn between(&mut self, low: usize, high: usize) -> usize {
         low + self.below(high - low + 1)
     }
 
     /// As `between`, with each bound a good deal likelier than the rest.
-    fn between_edged(&mut self, low: usize, high: usize) -> usize {
+    pub fn between_edged(&mut self, low: usize, high: usize) -> usize {
         match self.below(8) {
             0 => low,
             1 => high,
@@ -55,11 +55,11 @@ impl Dice {
         }
     }
 
-    fn one_in(&mut self, chances: usize) -> bool {
+    pub fn one_in(&mut self, chances: usize) -> bool {
         self.below(chances) == 0
     }
 
-    fn byte(&mut self) -> u8 {
+    pub fn byte(&mut self) -> u8 {
         self.below(256) as u8
     }
 
@@ -67,8 +67,14 @@ impl Dice {
         self.pick(DIGITS)
     }
 
-    fn pick<T: Copy>(&mut self, from: &[T]) -> T {
+    pub fn pick<T: Copy>(&mut self, from: &[T]) -> T {
         from[self.below(from.len())]
+    }
+
+    pub fn shuffle<T>(&mut self, all: &mut [T]) {
+        for at in (1..all.len()).rev() {
+            all.swap(at, self.below(at + 1));
+        }
     }
 }
 
@@ -116,12 +122,17 @@ impl Draft {
     }
 
     fn text(&self) -> Vec<u8> {
-        let mut text = Vec::with_capacity(MAX_TEXT);
-        for line in &self.lines {
-            write_line(&mut text, line);
-        }
-        text
+        text_of(&self.lines)
     }
+}
+
+/// The text of lines of bytes.
+pub fn text_of(lines: &[Vec<u8>]) -> Vec<u8> {
+    let mut text = Vec::with_capacity(MAX_TEXT);
+    for line in lines {
+        write_line(&mut text, line);
+    }
+    text
 }
 
 fn write_line(text: &mut Vec<u8>, line: &[u8]) {
@@ -173,13 +184,13 @@ fn draft_of(dice: &mut Dice, rules: usize, bars: usize, onsets: usize) -> Draft 
     }
 }
 
-fn duration(dice: &mut Dice) -> usize {
+pub fn duration(dice: &mut Dice) -> usize {
     // A random width first: short bars make equal units and bar lines likely.
     let widest = 60_000_000 >> dice.below(16);
     dice.between_edged(1_000, widest.max(1_000))
 }
 
-fn grammar_head(dice: &mut Dice, nonterminals: usize) -> Vec<u8> {
+pub fn grammar_head(dice: &mut Dice, nonterminals: usize) -> Vec<u8> {
     let start = dice.below(nonterminals) as u8;
     vec![0x47, nonterminals as u8, start, dice.byte(), dice.byte()]
 }
@@ -193,25 +204,25 @@ fn rule(dice: &mut Dice, nonterminals: usize) -> Vec<u8> {
     }
 }
 
-fn leaf(dice: &mut Dice, nonterminals: usize) -> Vec<u8> {
+pub fn leaf(dice: &mut Dice, nonterminals: usize) -> Vec<u8> {
     let head = dice.below(nonterminals) as u8;
     vec![0x4C, head, dice.byte(), dice.byte(), dice.below(4) as u8]
 }
 
-fn division(dice: &mut Dice, nonterminals: usize, arity: usize) -> Vec<u8> {
+pub fn division(dice: &mut Dice, nonterminals: usize, arity: usize) -> Vec<u8> {
     let head = dice.below(nonterminals) as u8;
     let mut line = vec![0x44, head, dice.byte(), dice.byte(), arity as u8];
     line.extend((0..arity).map(|_| dice.below(nonterminals) as u8));
     line
 }
 
-fn playing_head(bars: usize, duration: usize) -> Vec<u8> {
+pub fn playing_head(bars: usize, duration: usize) -> Vec<u8> {
     let mut line = vec![0x45, bars as u8];
     line.extend((duration as u32).to_be_bytes());
     line
 }
 
-fn onset(dice: &mut Dice, time: usize) -> Vec<u8> {
+pub fn onset(dice: &mut Dice, time: usize) -> Vec<u8> {
     let mut line = vec![0x4E];
     line.extend((time as u32).to_be_bytes());
     line.push(dice.between_edged(0, 127) as u8);
@@ -912,9 +923,5 @@ pub fn timing_sheet() -> Vec<u8> {
         let time = at * step + dice.below(step);
         lines.push(onset(&mut dice, time));
     }
-    let mut text = Vec::new();
-    for line in &lines {
-        write_line(&mut text, line);
-    }
-    text
+    text_of(&lines)
 }

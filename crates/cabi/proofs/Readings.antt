@@ -14,6 +14,7 @@ use Rattle.sheet.specs.Held.{units, unitsOf, grammarTable, playingTable, readin
 use Rattle.sheet.specs.Good.{Good}
 use Rattle.sheet.specs.GoodLaws.{good}
 use Rattle.sheet.specs.Bounds.{refused-within}
+use Rattle.sheet.specs.Accepted.{refused-reading, accepted-reading}
 use Rattle.sizes.specs.Sizes.{workCells, treeBytes}
 use Rattle.cabi.specs.Entries.{workOf, treeOf, noOnset, unitAt}
 
@@ -52,32 +53,21 @@ module _ (t : List ℕ) (r : Reading) (e : r ≡ readingOf (readSheet t)) where
       (λ k n q. (omega arith, omega arith))
       (λ d s q h. (h .rules .most, h .onsets .most)))
 
-  -- a number other than 0 is a refusal's
+  -- a refused text has no required lengths
   pub none-refused : (r .number ≡ 0 → ⊥) → (0 ≡ workOf (readSheet t)) × (0 ≡ treeOf (readSheet t))
-  none-refused f =
-      by-outcome (λ (o : Outcome). (numberIn o ≡ 0 → ⊥) → (0 ≡ workOf o) × (0 ≡ treeOf o))
-      (λ k n q h. (refl, refl)) (λ d s q good h. absurd (h refl)) (λ z. f (number-is ∙ z))
+  none-refused f = let q = refused-reading t r e f in (sym (ap workOf q), sym (ap treeOf q))
 
-  -- number 0 is that of an accepted text
+  -- those of an accepted text are its sheet's
   module _ (z : r .number ≡ 0) where
-    accepted-by : (P : Outcome → Type 0) → ((d : ℕ) (s : Sheet) → Good d s → r ≡ readingOf (accepted d s) → P (accepted d s))
-        → P (readSheet t)
-    accepted-by P g =
-        by-outcome P (λ k n q. absurd (let m = refused-within t k n q .0 in omega (arith, sym (ap numberIn q) ∙ sym number-is ∙ z)))
-        (λ d s q h. g d s h (e ∙ ap readingOf q))
-
     pub work-is : (n : ℕ)
         → ((d : ℕ) (s : Sheet) → Good d s → r .grammar ≡ grammarTable (s .grammar) → r .playing ≡ playingTable (s .playing)
         → n ≡ workCells s)
         → n ≡ workOf (readSheet t)
-    unfolding readingOf
     work-is n f =
-        accepted-by (λ (o : Outcome). n ≡ workOf o)
-        (λ d s h q. f d s h (ap (λ (x : Reading). x .grammar) q) (ap (λ (x : Reading). x .playing) q))
+        let (d, s, q, h) = accepted-reading t r e z in f (h .duration) s (h .good) (h .grammar) (h .playing) ∙ sym (ap workOf q)
 
     pub tree-is : (n : ℕ) → ((s : Sheet) → r .playing ≡ playingTable (s .playing) → n ≡ treeBytes s) → n ≡ treeOf (readSheet t)
-    unfolding readingOf
-    tree-is n f = accepted-by (λ (o : Outcome). n ≡ treeOf o) (λ d s h q. f s (ap (λ (x : Reading). x .playing) q))
+    tree-is n f = let (d, s, q, h) = accepted-reading t r e z in f s (h .playing) ∙ sym (ap treeOf q)
 
   -- a place of the units
   pub unit-is : (i : ℕ) → i < 512 → getD (r .playing .units) i (units 0) .0 ≡ unitAt (readSheet t) i

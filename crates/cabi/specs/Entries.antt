@@ -1,8 +1,11 @@
 -- What the entries for C and Rust give of an outcome of reading.
 use Prim.Native.Nat.{ℕ, _+_, _*_}
-use lib.ListN.{getD}
+use mathlib.Core.List.{List, [], _∷_}
+use lib.ListN.{length, getD}
 use Rattle.sheet.specs.Sheet.{Onset}
 use Rattle.sheet.specs.Reading.{Outcome, refused, accepted, numberIn, lineIn}
+use Rattle.pricing.specs.Pricing as pricing
+use Rattle.score.specs.Writing as writing
 use Rattle.sizes.specs.Sizes.{workCells, treeBytes}
 
 -- the number and the line of a refusal in one number; 0 for an accepted text
@@ -25,3 +28,13 @@ noOnset = record { unit = 0; pitch = 0 }
 abbrev pub unitAt : Outcome → ℕ → ℕ
 unitAt (refused k n) i = 0
 unitAt (accepted d s) i = getD (s .playing .onsets) i noOnset .unit
+
+-- the numbers of a price, in the order of the answer; zeros behind a refusal's number and line
+abbrev pub priceCells : pricing.Outcome → List ℕ
+priceCells (pricing.refusal k n) = k ∷ n ∷ 0 ∷ 0 ∷ 0 ∷ 0 ∷ []
+priceCells (pricing.priced nodes R D total) = 0 ∷ 0 ∷ nodes ∷ R ∷ D ∷ total ∷ []
+
+-- the numbers of a score, in the order of the answer
+abbrev pub writeCells : writing.Outcome → List ℕ
+writeCells (writing.refusal k n) = k ∷ n ∷ 0 ∷ []
+writeCells (writing.written text) = 0 ∷ 0 ∷ length text ∷ []

@@ -1,7 +1,10 @@
 // The entries for C and Rust. A text is a pointer to its bytes and their number. Each entry takes every text and checks it itself.
 ghost use mathlib.Core.Path.{_≡_};
 ghost use Rattle.sheet.specs.Reading.{readSheet};
-ghost use Rattle.cabi.specs.Entries.{checkOf, workOf, treeOf, unitAt};
+ghost use lib.ListN.{length};
+ghost use Rattle.pricing.specs.Pricing.{priceText};
+ghost use Rattle.score.specs.Writing.{writeText, scoreAfter};
+ghost use Rattle.cabi.specs.Entries.{checkOf, workOf, treeOf, unitAt, priceCells, writeCells};
 
 // The number of a text's refusal times 65,536, plus its line; 0: the text is accepted.
 #[no_mangle]
@@ -53,4 +56,36 @@ pub extern "C" fn rhythm_onset_unit(text: &[u8], i: usize) -> u32
     let playing = r.playing;
     let unit = playing.units[i];
     unit.0
+}
+
+// Prices a list against the sheet that a text means: refusal number, line, node count, R, D and total.
+#[no_mangle]
+pub extern "C" fn rhythm_price(text: &[u8], list: &[u8], answer: &mut [u64; 6])
+    ensures { λ _. ⌜ now (answer .exit) ≡ priceCells (priceText (now (text .entry)) (now (list .entry))) ⌝ }
+{
+    let r = pricing::price(text, list);
+    let cells = [
+        r.number as u64,
+        r.line as u64,
+        r.nodes as u64,
+        r.weight,
+        r.distance,
+        r.total,
+    ];
+    *answer = cells;
+}
+
+// Writes the score lines of a list against the sheet that a text means: refusal number, line and byte count. Bytes of the score slice
+// behind the text are kept, and all of them in a refusal.
+#[no_mangle]
+pub extern "C" fn rhythm_write(text: &[u8], list: &[u8], score: &mut [u8], answer: &mut [u64; 3])
+    ensures { λ _. ⌜
+        (now (answer .exit) ≡ writeCells (writeText (now (text .entry)) (now (list .entry)) (length (now (score .entry)))))
+        × (now (score .exit)
+        ≡ scoreAfter (writeText (now (text .entry)) (now (list .entry)) (length (now (score .entry)))) (now (score .entry)))
+        ⌝ }
+{
+    let w = score::write(text, list, score);
+    let cells = [w.number as u64, w.line as u64, w.bytes as u64];
+    *answer = cells;
 }

@@ -8,10 +8,11 @@ use native.Mathlib.Numerals.{add-one}
 use lib.ListN.{length, getD, set, length-append}
 use borrow.Author.Tests.{lt-ltb, le-ltb}
 use Rattle.slices.specs.Over.{over}
-use Rattle.slices.specs.Pad.{pad, length-pad, pad-more}
+use Rattle.slices.specs.Pad.{pad, pad-more}
 use Rattle.sheet.specs.declared.line.Line.{Line}
 use Rattle.sheet.specs.Reading.{allBelow, bytesFrom}
 use Rattle.sheet.specs.Held.{flat, childCells}
+use Rattle.sheet.specs.Children.{length-flat}
 use Rattle.sheet.specs.Laws.{length-bytes}
 
 module _ (l : Line) where
@@ -39,11 +40,6 @@ below-yes q x xs h = simp (lt-ltb x q h)
 pub below-no : (q x : ℕ) (xs : List ℕ) → q ≤ x → allBelow q (x ∷ xs) ≡ false
 unfolding allBelow
 below-no q x xs h = simp (le-ltb x q h)
-
-pub length-flat : (rs : List (List ℕ)) → length (flat rs) ≡ 8 * length rs
-unfolding flat
-length-flat [] = refl
-length-flat (ks ∷ rs) = length-append (pad 8 0 ks) (flat rs) ∙ omega (arith, length-pad 8 0 ks, length-flat rs)
 
 flat-more : (rs : List (List ℕ)) (ks : List ℕ) → flat (rs ++ (ks ∷ [])) ≡ flat rs ++ pad 8 0 ks
 unfolding flat

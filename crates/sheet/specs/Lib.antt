@@ -2,11 +2,13 @@ pub mod Sheet
 pub mod Reading
 pub mod Clock
 pub mod Held
+pub mod Children
 pub mod Good
 pub mod SoFar
 pub mod Laws
 pub mod GoodLaws
 pub mod Bounds
+pub mod Accepted
 pub mod Demands
 pub mod Buffer
 pub mod Literal

@@ -16,6 +16,11 @@ module _ {A : Type 0} (P : A → Type 0) where
   every-more [] x e p = (p, tt)
   every-more (y ∷ xs) x e p = (e .0, every-more xs x (e .1) p)
 
+  -- two lists
+  pub every-append : (xs ys : List A) → Every P xs → Every P ys → Every P (xs ++ ys)
+  every-append [] ys e f = f
+  every-append (x ∷ xs) ys e f = (e .0, every-append xs ys (e .1) f)
+
   -- the element at a place, and the default past the end
   pub every-at : (xs : List A) (i : ℕ) (d : A) → Every P xs → P d → P (getD xs i d)
   every-at [] i d e p = p

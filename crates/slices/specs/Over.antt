@@ -72,3 +72,24 @@ module _ {A : Type 0} where
   over-append [] bs xs h = refl
   over-append (c ∷ cs) bs [] h = let f : ⊥ = omega arith in absurd f
   over-append (c ∷ cs) bs (x ∷ xs) h = ap (λ (l : List A). c ∷ l) (over-append cs bs xs (omega arith))
+
+  pub over-from-append : (n : ℕ) (cs bs xs : List A) → n + length cs ≤ length xs
+      → overFrom (n + length cs) bs (overFrom n cs xs) ≡ overFrom n (cs ++ bs) xs
+  unfolding overFrom
+  over-from-append zero cs bs xs h = rw zero-add (over-append cs bs xs (omega arith))
+  over-from-append (suc n) cs bs [] h = let f : ⊥ = omega arith in absurd f
+  over-from-append (suc n) cs bs (x ∷ xs) h = rw suc-add (ap (λ (l : List A). x ∷ l) (over-from-append n cs bs xs (omega arith)))
+
+  -- the last cell written first
+  pub over-last : (bs xs : List A) (b : A) → over (bs ++ (b ∷ [])) xs ≡ over bs (set xs (length bs) b)
+  unfolding over
+  over-last [] [] b = refl
+  over-last [] (x ∷ xs) b = refl
+  over-last (c ∷ bs) [] b = refl
+  over-last (c ∷ bs) (x ∷ xs) b = ap (λ (l : List A). c ∷ l) (over-last bs xs b)
+
+  pub over-from-last : (n : ℕ) (bs xs : List A) (b : A) → overFrom n (bs ++ (b ∷ [])) xs ≡ overFrom n bs (set xs (n + length bs) b)
+  unfolding overFrom
+  over-from-last zero bs xs b = rw zero-add (over-last bs xs b)
+  over-from-last (suc n) bs [] b = refl
+  over-from-last (suc n) bs (x ∷ xs) b = rw suc-add (ap (λ (l : List A). x ∷ l) (over-from-last n bs xs b))

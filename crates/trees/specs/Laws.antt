@@ -1,9 +1,9 @@
 -- What the theory of derivations asks of a sheet's instance: it has so many rules, the carry never passes 3, and lengths fall from an item
 -- to its parts.
 use Prim.Native.Nat.{ℕ, zero, suc, _+_, _-_, _*_, _/_, _≤_, _<_}
-use mathlib.Core.Path.{_≡_, refl, subst}
+use mathlib.Core.Path.{_≡_, refl, ap, subst, _∙_}
 use mathlib.Core.Bool.{true}
-use mathlib.Core.List.{List, [], _∷_}
+use mathlib.Core.List.{List, [], _∷_, _++_}
 use mathlib.Core.Logic.{inl, inr}
 use mathlib.Core.Option.{none, some, Option·elim}
 use native.Mathlib.Nat.{not-suc-le-zero, le-of-suc-le-suc, div-lt-self}
@@ -35,6 +35,13 @@ row-every X l p (q ∷ qs) h =
   where
     at-left : {x y k : ℕ} → x ≡ y → X (record { nonterminal = k; left = x; len = p }) → X (record { nonterminal = k; left = y; len = p })
     at-left {k = k} e t = subst (λ (z : ℕ). X (record { nonterminal = k; left = z; len = p })) e t
+
+-- intervals in a row, then more of them
+pub row-append : (l p : ℕ) (xs ys : List ℕ) → row l p (xs ++ ys) ≡ row l p xs ++ row (l + length xs * p) p ys
+row-append l p [] ys = ap (λ (x : ℕ). row x p ys) (omega arith)
+row-append l p (x ∷ xs) ys =
+    ap (λ (gs : List Item). record { nonterminal = x; left = l; len = p } ∷ gs) (row-append (l + p) p xs ys
+    ∙ ap (λ (z : ℕ). row (l + p) p xs ++ row z p ys) (omega arith))
 
 -- part j of the item g, divided into k, under nonterminal q
 abbrev pub partOf : Item → (k j q : ℕ) → Item

@@ -9,10 +9,12 @@ pub mod Fits
 pub mod Readings
 pub mod Equivalence
 pub mod OneReading
+pub mod Leaves
 pub mod Onsets
 pub mod Depth
 pub mod Room
 pub mod Laws
+pub mod LeafBounds
 pub mod Intervals
 pub mod Nesting
 pub mod Found

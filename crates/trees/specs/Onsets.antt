@@ -72,7 +72,7 @@ distance-most place d (o ∷ os) h = omega (arith, h .0, distance-most place d o
 
 -- ---- an interval and its parts
 
-contains-bounds : (l n u : ℕ) → contains l n u ≡ true → (l ≤ u) × (u < l + n)
+pub contains-bounds : (l n u : ℕ) → contains l n u ≡ true → (l ≤ u) × (u < l + n)
 contains-bounds l n u e = let p = and-both (leb l u) (ltb u (l + n)) e in (leb-true _ _ (p .0), ltb-true _ _ (p .1))
 
 module _ (s : Sheet) where

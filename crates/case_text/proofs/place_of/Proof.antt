@@ -2,8 +2,8 @@
 use borrow.Author.Needs.{needs}
 use Prim.Native.Nat.{_≤_, _-_}
 use lib.ListN.{length}
-use Rattle.reading_cases.proofs.place_of.Statement.{statement}
-use Rattle.reading_cases.proofs.place_of.Tie as tie
+use Rattle.case_text.proofs.place_of.Statement.{statement}
+use Rattle.case_text.proofs.place_of.Tie as tie
 
 abbrev Inv-loop : tie.InvT-loop
 Inv-loop s at b i₀ i = (at ≤ i) × (i ≤ length s)

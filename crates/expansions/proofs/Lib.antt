@@ -1,0 +1,2 @@
+pub mod PlaceSteps
+pub mod ExpandSteps

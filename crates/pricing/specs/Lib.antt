@@ -1,0 +1,4 @@
+pub mod Pricing
+pub mod PricingLaws
+pub mod Steps
+pub mod Cases

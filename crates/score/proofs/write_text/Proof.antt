@@ -1,0 +1,63 @@
+-- `write_text` meets its contract: the head's line has room, and the leaves are written behind it. Assumes nothing.
+use Rattle.score.proofs.TextSteps.{few-onsets, bars-given, text-done}
+use borrow.Author.Needs.{needs}
+use Rattle.score.proofs.write_text.Statement.{statement}
+use Rattle.score.proofs.write_text.Tie as tie
+
+pack-rules-requires : tie.Need-pack-rules-requires
+pack-rules-requires c κs = search needs
+
+pack-units-requires : tie.Need-pack-units-requires
+pack-units-requires c κs = few-onsets (c .before .before .before .pre .1)
+
+head-line-requires : tie.Need-head-line-requires
+head-line-requires c κs = search needs
+
+slice-aggregate-write-line : tie.Need-slice-aggregate-write-line
+slice-aggregate-write-line c = search needs
+
+write-line-requires : tie.Need-write-line-requires
+write-line-requires c κs = search needs
+
+write-bars-requires : tie.Need-write-bars-requires
+write-bars-requires c κs =
+    let write-line = c .before .before .before .before .before .before .before .write-line in
+    let head-line = c .before .before .before .before .before .before .before .before .before .before .head-line in
+    let further = c .before .before .before .before .before .before .before .before in
+    let pack-units = further .before .before .before .pack-units in
+    let pack-rules = further .before .before .before .before .pack-rules in
+    let start = further .before .before .before .before .before .before .before in
+    let s = start .pre .0 in
+    let h = start .pre .1 in (
+      s,
+      bars-given h _ (head-line .ensures) _ _ (write-line .ensures) _ _ (pack-rules .ensures (s .grammar) (h .held .grammar))
+          (pack-units .ensures (s .playing) (h .held .good .onsets) (h .held .playing)),
+    )
+
+same-length : tie.Need-same-length
+same-length c = search needs
+
+returns : tie.Need-returns
+returns c =
+    let write-bars = c .before .before .write-bars in
+    let write-line = c .before .before .before .before .before .before .before .before .before .before .write-line in
+    let further = c .before .before .before .before .before .before .before .before in
+    let head-line = further .before .before .before .before .before .head-line in
+    let pack-units = further .before .before .before .before .before .before .pack-units in
+    let pack-rules = further .before .before .before .before .before .before .before .pack-rules in
+    λ s h. text-done h _ (head-line .ensures) _ _ (write-line .ensures) _ _
+    (write-bars .ensures s (bars-given h _ (head-line .ensures) _ _ (write-line .ensures) _ _
+    (pack-rules .ensures (s .grammar) (h .held .grammar)) (pack-units .ensures (s .playing) (h .held .good .onsets) (h .held .playing))))
+
+pub write-text-spec : {M : Type 1} → statement M
+write-text-spec =
+    tie.close
+    (tie.spec
+    pack-rules-requires
+    pack-units-requires
+    head-line-requires
+    slice-aggregate-write-line
+    write-line-requires
+    write-bars-requires
+    same-length
+    returns)

@@ -1,0 +1,61 @@
+-- Writing on document 01's sheet S, by computation: "Tree `010303`, R 8, D 1,008" and the three lines that "the program prints"; the
+-- examples of refusals 12, "S with `00`", and 13, "S with 0 bytes", and that a slice of one byte less than the text is short too.
+use Prim.Native.Nat.{ℕ, _≤_, _<_}
+use mathlib.Core.Path.{_≡_, refl, ap, _∙_}
+use mathlib.Core.Bool.{cond}
+use mathlib.Core.List.{List, [], _∷_}
+use mathlib.Core.Option.{Option·elim}
+use borrow.Author.Tests.{le-leb, lt-leb}
+use Rattle.hextext.specs.Written.{lineText}
+use Rattle.sheet.specs.Literal.{textOf}
+use Rattle.sheet.specs.Cases.{S, sheetS, S-means}
+use Rattle.derivations.specs.Derivation.{onto}
+use Rattle.trees.specs.ValidTrees.{whose, inside, early, late, bars, placedFrom, distanceTo}
+use Rattle.trees.specs.Leaves.{leavesFrom, entriesOf}
+use Rattle.pricing.specs.Pricing.{priced, noTree, priceSheet}
+use Rattle.score.specs.Score.{bigEndian, headLine, leafLine, leafLines, scoreText}
+use Rattle.score.specs.Writing.{Outcome, refusal, written, noRoom, textWithin, writePriced, writeSheet, writeRead, writeText}
+
+-- the three lines
+abbrev pub linesOfS : List ℕ
+linesOfS = textOf "54010000000000000440000000000000000800000000000003F0\n5300000000276001013C\n5300002760276001013E\n"
+
+abbrev treeOfS : List ℕ
+treeOfS = 1 ∷ 3 ∷ 3 ∷ []
+
+S-score : scoreText 1 8 1008 1088 (entriesOf sheetS treeOfS) ≡ linesOfS
+unfolding scoreText headLine leafLines leafLine bigEndian lineText leavesFrom bars placedFrom early late inside whose
+S-score = refl
+
+S-priced : priceSheet sheetS treeOfS ≡ priced 3 8 1008 1088
+unfolding priceSheet onto whose distanceTo Option·elim
+S-priced = refl
+
+S-not-priced : priceSheet sheetS (0 ∷ []) ≡ noTree
+unfolding priceSheet onto whose distanceTo Option·elim
+S-not-priced = refl
+
+-- what writing on S does, by what it does on the sheet that S means
+on-S : (list : List ℕ) (room : ℕ) (o : Outcome) → writeSheet sheetS list room ≡ o → writeText S list room ≡ o
+unfolding writeText
+on-S list room o e = ap (λ x. writeRead x list room) S-means ∙ e
+
+-- the tree's text for a slice of `room` bytes
+S-text : (room : ℕ) → writeText S treeOfS room ≡ textWithin room linesOfS
+unfolding writeSheet
+S-text room = on-S treeOfS room _ (ap (writePriced sheetS treeOfS room) S-priced ∙ ap (textWithin room) S-score)
+
+-- with room for 95 bytes the three lines are written
+pub S-written : (room : ℕ) → 95 ≤ room → writeText S (1 ∷ 3 ∷ 3 ∷ []) room ≡ written linesOfS
+unfolding textWithin
+S-written room h = S-text room ∙ ap (λ b. cond b (written linesOfS) noRoom) (le-leb 95 room h)
+
+-- with less the slice is short
+pub S-short : (room : ℕ) → room < 95 → writeText S (1 ∷ 3 ∷ 3 ∷ []) room ≡ refusal 13 0
+unfolding textWithin
+S-short room h = S-text room ∙ ap (λ b. cond b (written linesOfS) noRoom) (lt-leb 95 room h)
+
+-- `00` is no valid tree, whatever the slice
+pub S-no-tree : (room : ℕ) → writeText S (0 ∷ []) room ≡ refusal 12 0
+unfolding writeSheet
+S-no-tree room = on-S (0 ∷ []) room _ (ap (writePriced sheetS (0 ∷ []) room) S-not-priced)

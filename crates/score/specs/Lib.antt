@@ -1,0 +1,6 @@
+pub mod Score
+pub mod ScoreLaws
+pub mod LeafRules
+pub mod Writing
+pub mod Steps
+pub mod Cases

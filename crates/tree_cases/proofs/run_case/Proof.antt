@@ -1,0 +1,92 @@
+-- `run_case` is safe and ends, gives a place within the input and keeps the lengths of both slices. Assumes nothing.
+use Prim.Native.Nat.{min}
+use mathlib.Core.Path.{_≡_, ap, _∙_}
+use lib.ListN.{length}
+use native.Mathlib.Omega.{arith}
+use Rattle.slices.specs.Over.{length-over}
+use borrow.Author.Needs.{needs}
+use Rattle.tree_cases.proofs.run_case.Statement.{statement}
+use Rattle.tree_cases.proofs.run_case.Tie as tie
+
+next-line-requires : tie.Need-next-line-requires
+next-line-requires c κs = search needs
+
+slice-aggregate-next-line : tie.Need-slice-aggregate-next-line
+slice-aggregate-next-line c = search needs
+
+next-line-requires-2 : tie.Need-next-line-requires-2
+next-line-requires-2 c κs = search needs
+
+fill-from-requires : tie.Need-fill-from-requires
+fill-from-requires c κs = search needs
+
+least-requires : tie.Need-least-requires
+least-requires c κs = search needs
+
+place-of-requires : tie.Need-place-of-requires
+place-of-requires c κs =
+    let start = c .before .before .before .before .before .before .before .before .before .before .before .before .before .before .before
+    in
+    let next-line2 = c .before .before .before .before .before .before .next-line2 in
+    let least = c .least in
+    let e : least .result ≡ min (next-line2 .result .next) (length (start .args .s .now)) = least .ensures in
+    omega arith
+
+sub-print-case : tie.Need-sub-print-case
+sub-print-case c = search needs
+
+part-print-case-start : tie.Need-part-print-case-start
+part-print-case-start c = search needs
+
+part-print-case-end : tie.Need-part-print-case-end
+part-print-case-end c = search needs
+
+setting-of-requires : tie.Need-setting-of-requires
+setting-of-requires c κs = search needs
+
+print-case-requires : tie.Need-print-case-requires
+print-case-requires c κs = search needs
+
+same-length : tie.Need-same-length
+same-length c = search needs
+
+same-length-2 : tie.Need-same-length-2
+same-length-2 c = search needs
+
+returns : tie.Need-returns
+returns c =
+    let start = c .before .before .before .before .before .before .before .before .before .before .before .before .before .before .before
+    .before .before .before .before .before .before .before .before in
+    let next-line = c .before .before .before .before .before .before .before .before .before .before .before .before .before .before
+    .before .before .before .before .next-line in
+    let next-line2 = c .before .before .before .before .before .before .before .before .before .before .before .before .before .before
+    .next-line2 in
+    let fill-from = c .before .before .before .before .before .before .before .before .before .before .before .fill-from in
+    let least = c .before .before .before .before .before .before .before .before .least in
+    let place-of = c .before .before .before .before .before .before .before .place-of in
+    let print-case = c .before .before .print-case in
+    let e : least .result ≡ min (next-line2 .result .next) (length (start .args .s .now)) = least .ensures in (
+      omega (arith, place-of .ensures .0, next-line .ensures .next, next-line2 .ensures .next, start .pre),
+      place-of .ensures .1,
+      fill-from .ensures ∙ ap length (next-line .ensures .bytes) ∙ length-over _ _,
+      print-case .ensures,
+    )
+
+pub run-case-spec : {M : Type 1} → statement M
+run-case-spec =
+    tie.close
+    (tie.spec
+    next-line-requires
+    slice-aggregate-next-line
+    next-line-requires-2
+    fill-from-requires
+    least-requires
+    place-of-requires
+    sub-print-case
+    part-print-case-start
+    part-print-case-end
+    setting-of-requires
+    print-case-requires
+    same-length
+    same-length-2
+    returns)
