@@ -1,57 +1,30 @@
--- The steps of `expand`: the rule at a place of the table is the sheet's, and what becomes of it is the instance's expansion.
-use Prim.Native.Nat.{ℕ, zero, suc, _+_, _≤_}
+-- The steps of `expand`: what becomes of a rule at an item is the instance's expansion.
+use Prim.Native.Nat.{ℕ, _+_, _≤_}
 use mathlib.Core.Path.{_≡_, refl, sym, ap, _∙_}
-use mathlib.Core.Bool.{true, false, cond, false≢true}
-use mathlib.Core.Logic.{_⊎_, inl, inr}
-use mathlib.Core.List.{List, [], _∷_, map}
+use mathlib.Core.Bool.{true, false, cond}
+use mathlib.Core.Logic.{inl, inr}
+use mathlib.Core.List.{List}
 use mathlib.Core.Option.{none, some, Option·elim}
 use native.Mathlib.Decide.{decLe, ℕ-discrete}
 use native.Mathlib.Omega.{arith}
 use borrow.Author.Tests.{eq-eqb, ne-eqb, le-leb, lt-leb}
 use lib.Dec.{eqb, leb}
-use lib.ListN.{length, getD, getElem?}
+use lib.ListN.{length}
 use Rattle.slices.specs.Every.{every-some}
 use Rattle.sheet.specs.declared.table.Rule.{Rule}
 use Rattle.sheet.specs.declared.table.Rule.the-variants as cell
 use Rattle.sheet.specs.Sheet.{division, leaf, Sheet}
 use Rattle.sheet.specs.Sheet as meaning
 use Rattle.sheet.specs.Good.{GoodRule, GoodRules}
-use Rattle.sheet.specs.Held.{ruleCell, noRule}
 use Rattle.trees.specs.ValidTrees.{ruleAt, mayDivide, token}
 use Rattle.trees.specs.Instance.{earlyCount, lateCount, atLeaf, atDivision, expandBy, instanceOf}
 use Rattle.trees.specs.Expansions.{leaf-expands, division-expands}
 use Rattle.expansions.specs.declared.Interval.{Interval}
 use Rattle.expansions.specs.declared.Expansion.{Expansion}
 use Rattle.expansions.specs.declared.Expansion.the-variants.{Refused, Leaf, Division}
-use Rattle.expansions.specs.Tables.{ruleIn}
+use Rattle.expansions.specs.Tables.{cellOf}
+use Rattle.expansions.specs.RuleCells.{DivisionRule, division-rule}
 use Rattle.expansions.specs.Items.{itemOf, LeafFits, LeafUnfit, AsLeaf, AsDivision, LeafMade, DivisionMade, Expands}
-
--- ---- the rule at a place of the table
-
-abbrev Cells : List meaning.Rule → ℕ → Rule
-Cells rs i = getD (map ruleCell rs) i noRule .rule
-
-leaf≢division : (h w n i v k : ℕ) → cell.Leaf h w n ≡ cell.Division i v k → ⊥
-leaf≢division h w n i v k e = let f : false ≡ true = cc in false≢true f
-
-pub leaf-rule : (rs : List meaning.Rule) (i h w n : ℕ) → Cells rs i ≡ cell.Leaf h w n → getElem? rs i ≡ some (leaf h w n)
-leaf-rule [] i h w n e = absurd (leaf≢division _ _ _ _ _ _ (sym e))
-leaf-rule (leaf a b c ∷ rs) zero h w n e = ap some cc
-leaf-rule (division a b c ∷ rs) zero h w n e = absurd (leaf≢division _ _ _ _ _ _ (sym e))
-leaf-rule (r ∷ rs) (suc i) h w n e = leaf-rule rs i h w n e
-
--- a division of some parts is the sheet's; one of none stands where the sheet has no rule
-abbrev pub DivisionRule : List meaning.Rule → (i h w k : ℕ) → Type 0
-DivisionRule rs i h w k = (ks : List ℕ) × (getElem? rs i ≡ some (division h w ks)) × (k ≡ length ks)
-
-pub division-rule : (rs : List meaning.Rule) (i h w k : ℕ) → Cells rs i ≡ cell.Division h w k
-    → ((getElem? rs i ≡ none) × (k ≡ 0)) ⊎ DivisionRule rs i h w k
-division-rule [] i h w k e = inl (refl, cc)
-division-rule (leaf a b c ∷ rs) zero h w k e = absurd (leaf≢division _ _ _ _ _ _ e)
-division-rule (division a b c ∷ rs) zero h w k e = inr (c, ap some cc, cc)
-division-rule (r ∷ rs) (suc i) h w k e = division-rule rs i h w k e
-
--- ---- what becomes of it
 
 module _ (s : Sheet) (q : ℕ) (over : Interval) (c r : ℕ) where
   expand-by : (ru : meaning.Rule) → ruleAt s r ≡ some ru → instanceOf s .expand (itemOf q over) c r ≡ expandBy s (itemOf q over) c ru
@@ -83,20 +56,17 @@ module _ (s : Sheet) (q : ℕ) (over : Interval) (c r : ℕ) where
       go (yes a) (no b) = rw (le-leb l 3 a, ne-eqb n k b)
       go (yes a) (yes b) = absurd (u a b)
 
-  leaf-made : (w n e l d : ℕ) → ruleAt s r ≡ some (leaf q w n) → LeafFits s over c n e l d → LeafMade s (itemOf q over) c r w n e l d
+  leaf-made : (w n e l d : ℕ) → ruleAt s r ≡ some (leaf q w n) → LeafFits s (over .left .0) (over .len .0) c n e l d
+      → LeafMade s (itemOf q over) c r w n e l d
   leaf-made w n e l d f m =
-      let few : lateCount s (over .left .0) (over .len .0) ≤ 3 = omega (arith, m .few, m .late) in
-      let kind = m .kind ∙ ap (λ x. token (c + x)) (m .early) in
+      let few : lateCount s (over .left .0) (over .len .0) ≤ 3 = omega (arith, m .few, m .counts .late) in
+      let kind = m .kind ∙ ap (λ x. token (c + x)) (m .counts .early) in
       record {
         rule = f;
         expands =
             leaf-expands s (itemOf q over) c r (atLeaf s (itemOf q over))
             (record { weight = w; n = n; rule = f; few-late = few; kind-fits = kind; is = refl });
-        early = m .early;
-        late = m .late;
-        distance = m .distance;
-        kind = m .kind;
-        few = m .few;
+        fits = m;
       }
 
   pub leaf-as : (h w n : ℕ) (x : Expansion) → ruleAt s r ≡ some (leaf h w n) → h ≡ q → AsLeaf s over c w n x
@@ -143,20 +113,20 @@ module _ (s : Sheet) (q : ℕ) (over : Interval) (c r : ℕ) where
   none-by w (Leaf v m i l d) e a = absurd a
   none-by w (Division v j) e (av, aj, am, az) = absurd (az aj)
 
-  pub division-as : GoodRules (s .grammar) → (h w k : ℕ) (x : Expansion) → ruleIn (s .grammar) r ≡ cell.Division h w k → h ≡ q
+  pub division-as : GoodRules (s .grammar) → (h w k : ℕ) (x : Expansion) → cellOf (ruleAt s r) ≡ cell.Division h w k → h ≡ q
       → AsDivision s over w k x → Expands s (itemOf q over) c r x
-  division-as good h w k x e d a = go (division-rule (s .grammar .rules) r h w k e)
+  division-as good h w k x e d a = go (division-rule (ruleAt s r) h w k e)
     where
-      go : ((ruleAt s r ≡ none) × (k ≡ 0)) ⊎ DivisionRule (s .grammar .rules) r h w k → Expands s (itemOf q over) c r x
+      go : DivisionRule (ruleAt s r) h w k → Expands s (itemOf q over) c r x
       go (inl (n, z)) = none-by w x n (rw z at a)
       go (inr (ks, f, z)) =
           division-by w k ks x (rw d at f) z (λ y. omega (arith, some-parts good h w ks f)) a
 
-  pub division-not : (h w k : ℕ) → ruleIn (s .grammar) r ≡ cell.Division h w k → (h ≡ q → ⊥)
+  pub division-not : (h w k : ℕ) → cellOf (ruleAt s r) ≡ cell.Division h w k → (h ≡ q → ⊥)
       → instanceOf s .expand (itemOf q over) c r ≡ none
   unfolding instanceOf Option·elim
-  division-not h w k e d = go (division-rule (s .grammar .rules) r h w k e)
+  division-not h w k e d = go (division-rule (ruleAt s r) h w k e)
     where
-      go : ((ruleAt s r ≡ none) × (k ≡ 0)) ⊎ DivisionRule (s .grammar .rules) r h w k → instanceOf s .expand (itemOf q over) c r ≡ none
+      go : DivisionRule (ruleAt s r) h w k → instanceOf s .expand (itemOf q over) c r ≡ none
       go (inl (n, z)) = rw n
       go (inr (ks, f, z)) = division-other h w ks f d

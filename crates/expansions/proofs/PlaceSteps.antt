@@ -54,7 +54,7 @@ module _ {s : Sheet} {us : List ℕ} {left len from : ℕ} (h : Here s us (inter
     inside s left len,
     record {
       in-list = omega (arith, h .first, onsets-most s 0 left);
-      place = ap (λ n. drop n (s .playing .onsets)) (h .first) ∙ inside-then s (h .good) left len (h .within);
+      place = ap (λ n. drop n (s .playing .onsets)) (h .first) ∙ inside-then s (h .onsets .good) left len (h .within);
       bounds = inside-bounds s left len;
       soon = omega arith;
       behind = omega arith;
@@ -65,11 +65,11 @@ module _ {s : Sheet} {us : List ℕ} {left len from : ℕ} (h : Here s us (inter
   pub counts-small : (i e l d : ℕ) → Counted s left len i e l d → Small i e l d
   counts-small i e l d (rest, c) =
       let n = onsetsIn s left len in
-      let few : n ≤ 512 = omega (arith, onsets-most s left len, h .good .most) in
+      let few : n ≤ 512 = omega (arith, onsets-most s left len, h .onsets .good .most) in
       let most : len * n ≤ 1290240 * 512 = mul-le-mul {n₂ = 1290240} (omega (arith, h .within)) few in
       let own = own-distance-most s left len in
       record {
-        place = omega (arith, c .in-list, h .good .most);
+        place = omega (arith, c .in-list, h .onsets .good .most);
         early = omega (arith, c .soon, early-late s left len);
         late = omega (arith, c .behind, early-late s left len);
         distance = omega (arith, c .far);
@@ -77,12 +77,12 @@ module _ {s : Sheet} {us : List ℕ} {left len from : ℕ} (h : Here s us (inter
 
   -- what the table holds at place i
   unit-is : (i : ℕ) → i ≤ length (s .playing .onsets) → getD us i 0 ≡ unitFrom (drop i (s .playing .onsets))
-  unit-is i k = ap (λ xs. getD xs i 0) (h .cells) ∙ cell-is (s .playing) i (omega (arith, h .good .most))
+  unit-is i k = ap (λ xs. getD xs i 0) (h .onsets .cells) ∙ cell-is (s .playing) i (omega (arith, h .onsets .good .most))
 
   pub next-counted : (i e l d : ℕ) → Counted s left len i e l d → getD us i 0 < left + len → Next s left len i e l d (getD us i 0)
   unfolding whose distanceTo
   next-counted i e l d ([], c) k =
-      absurd (omega (arith, unit-is i (c .in-list), ap unitFrom (c .place), first-behind s (h .good) (left + len) (h .within)))
+      absurd (omega (arith, unit-is i (c .in-list), ap unitFrom (c .place), first-behind s (h .onsets .good) (left + len) (h .within)))
   next-counted i e l d (o ∷ rest, c) k =
       let os = s .playing .onsets in
       let more = drop (firstAt s (left + len)) os in
@@ -91,7 +91,7 @@ module _ {s : Sheet} {us : List ℕ} {left len from : ℕ} (h : Here s us (inter
       let later : drop (i + 1) os ≡ rest ++ more = sym (drop-drop 1 i os) ∙ ap (drop 1) (c .place) in
       record {
         low = omega (arith, c .bounds .0 .0);
-        in-table = omega (arith, h .good .most);
+        in-table = omega (arith, h .onsets .good .most);
         if-early = λ t.
             let q : isEarly left len (o .unit) ≡ true = lt-ltb (2 * (o .unit - left)) len (rw here at t) in (
               rest,

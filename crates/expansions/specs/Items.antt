@@ -6,7 +6,6 @@ use mathlib.Core.List.{List}
 use mathlib.Core.Option.{none, some}
 use lib.ListN.{length}
 use Rattle.sheet.specs.Sheet.{division, leaf, Sheet}
-use Rattle.sheet.specs.Good.{GoodRules, GoodOnsets}
 use Rattle.sheet.specs.Held.{units}
 use Rattle.derivations.specs.Derivation.{Item}
 use Rattle.trees.specs.ValidTrees.{ruleAt, mayDivide, token}
@@ -15,7 +14,7 @@ use Rattle.expansions.specs.declared.Interval.{Interval}
 use Rattle.expansions.specs.declared.Placed.{Placed}
 use Rattle.expansions.specs.declared.Expansion.{Expansion}
 use Rattle.expansions.specs.declared.Expansion.the-variants.{Refused, Leaf, Division}
-use Rattle.expansions.specs.Tables.{PackedRules, unitCells, lastUnit}
+use Rattle.expansions.specs.Tables.{RulesHeld, UnitsHeld, lastUnit}
 
 -- an interval by its numbers
 abbrev pub interval : (left len : ℕ) → Interval
@@ -27,8 +26,7 @@ firstAt s u = onsetsIn s 0 u
 
 -- the units are those of the sheet, the interval is within the longest piece, and `from` is the first onset at or behind its left bound
 pub record Here (s : Sheet) (units : List ℕ) (over : Interval) (from : ℕ) : Type 0 where
-  pub good : GoodOnsets (s .playing)
-  pub cells : units ≡ unitCells (s .playing)
+  pub onsets : UnitsHeld s units
   pub within : over .left .0 + over .len .0 ≤ lastUnit
   pub first : from ≡ firstAt s (over .left .0)
 
@@ -39,24 +37,25 @@ pub record Entered (s : Sheet) (units : List ℕ) (over : Interval) (from carrie
 
 -- and the rules are those of the sheet
 pub record At (s : Sheet) (cells units : List ℕ) (over : Interval) (from carried : ℕ) : Type 0 where
-  pub good : GoodRules (s .grammar)
-  pub rules : PackedRules (s .grammar) cells
+  pub rules : RulesHeld s cells
   pub entered : Entered s units over from carried
 
--- what a leaf does with the onsets inside its interval
-pub record PlacedAt (s : Sheet) (over : Interval) (p : Placed) : Type 0 where
-  pub early : p .early ≡ earlyCount s (over .left .0) (over .len .0)
-  pub late : p .late ≡ lateCount s (over .left .0) (over .len .0)
-  pub distance : p .distance ≡ ownDistance s (over .left .0) (over .len .0)
+-- of the onsets inside an interval e are early and l late, and they are d units from their places
+pub record Counts (s : Sheet) (left len e l d : ℕ) : Type 0 where
+  pub early : e ≡ earlyCount s left len
+  pub late : l ≡ lateCount s left len
+  pub distance : d ≡ ownDistance s left len
+
+-- what `place` gives
+abbrev pub PlacedAt : Sheet → Interval → Placed → Type 0
+PlacedAt s over p = Counts s (over .left .0) (over .len .0) (p .early) (p .late) (p .distance)
 
 abbrev pub itemOf : ℕ → Interval → Item
 itemOf q over = record { nonterminal = q; left = over .left .0; len = over .len .0 }
 
--- a leaf of weight w and n fits the interval, and places and carries on so
-pub record LeafFits (s : Sheet) (over : Interval) (c n : ℕ) (e l d : ℕ) : Type 0 where
-  pub early : e ≡ earlyCount s (over .left .0) (over .len .0)
-  pub late : l ≡ lateCount s (over .left .0) (over .len .0)
-  pub distance : d ≡ ownDistance s (over .left .0) (over .len .0)
+-- a leaf of this n fits the interval, into which c onsets are carried
+pub record LeafFits (s : Sheet) (left len c n : ℕ) (e l d : ℕ) : Type 0 where
+  pub counts : Counts s left len e l d
   pub kind : n ≡ token (c + e)
   pub few : l ≤ 3
 
@@ -68,7 +67,7 @@ LeafUnfit s over c n =
 -- what `leaf_at` gives
 abbrev pub AsLeaf : Sheet → Interval → ℕ → ℕ → ℕ → Expansion → Type 0
 AsLeaf s over c w n Refused = LeafUnfit s over c n
-AsLeaf s over c w n (Leaf v m e l d) = (v ≡ w) × (m ≡ n) × LeafFits s over c n e l d
+AsLeaf s over c w n (Leaf v m e l d) = (v ≡ w) × (m ≡ n) × LeafFits s (over .left .0) (over .len .0) c n e l d
 AsLeaf s over c w n (Division v k) = ⊥
 
 -- what `division_at` gives, of a division of weight w into k parts
@@ -81,11 +80,7 @@ AsDivision s over w k (Division v a) = (v ≡ w) × (a ≡ k) × (mayDivide s k 
 pub record LeafMade (s : Sheet) (g : Item) (c r : ℕ) (w n e l d : ℕ) : Type 0 where
   pub rule : ruleAt s r ≡ some (leaf (g .nonterminal) w n)
   pub expands : instanceOf s .expand g c r ≡ some (atLeaf s g)
-  pub early : e ≡ earlyCount s (g .left) (g .len)
-  pub late : l ≡ lateCount s (g .left) (g .len)
-  pub distance : d ≡ ownDistance s (g .left) (g .len)
-  pub kind : n ≡ token (c + e)
-  pub few : l ≤ 3
+  pub fits : LeafFits s (g .left) (g .len) c n e l d
 
 -- rule r is a division into k parts that is allowed at the item
 pub record DivisionMade (s : Sheet) (g : Item) (c r : ℕ) (w k : ℕ) : Type 0 where

@@ -1,3 +1,4 @@
 pub mod Tables
+pub mod RuleCells
 pub mod Items
 pub mod Places

@@ -3,13 +3,16 @@ use Prim.Native.Nat.{ℕ, _*_, _/_, _%_, _<_}
 use mathlib.Core.Path.{_≡_}
 use mathlib.Core.Bool.{cond}
 use mathlib.Core.List.{List, map}
+use mathlib.Core.Option.{Option, none, some}
 use lib.Dec.{eqb}
-use lib.ListN.{getD}
+use lib.ListN.{getD, getElem?}
 use Rattle.slices.specs.Pad.{pad}
 use Rattle.sheet.specs.declared.table.Rule.{Rule}
 use Rattle.sheet.specs.declared.table.Rule.the-variants.{Division, Leaf}
-use Rattle.sheet.specs.Sheet.{Onset, Grammar, Playing, barUnits}
-use Rattle.sheet.specs.Held.{ruleCell, noRule}
+use Rattle.sheet.specs.Sheet.{Onset, Grammar, Playing, Sheet, barUnits}
+use Rattle.sheet.specs.Sheet as meaning
+use Rattle.sheet.specs.Good.{GoodRules, GoodOnsets}
+use Rattle.sheet.specs.Held.{ruleCell}
 
 -- the rule that a number stands for
 unfoldable pub unpackedOf : ℕ → Rule
@@ -18,13 +21,14 @@ unpackedOf x =
     (Leaf (x / 2 % 256) (x / 512 % 65536) (x / 33554432 % 256))
     (Division (x / 2 % 256) (x / 512 % 65536) (x / 33554432 % 256))
 
--- the rule at place i of a grammar's table; past the last there is a division of no parts, which no accepted sheet has
-abbrev pub ruleIn : Grammar → ℕ → Rule
-ruleIn g i = getD (map ruleCell (g .rules)) i noRule .rule
+-- a rule without the nonterminals of its parts; where there is no rule, a division of no parts, which no accepted sheet has
+abbrev pub cellOf : Option meaning.Rule → Rule
+cellOf none = Division 0 0 0
+cellOf (some r) = ruleCell r .rule
 
 -- each place holds its rule as a number
 abbrev pub PackedRules : Grammar → List ℕ → Type 0
-PackedRules g cells = (i : ℕ) → i < 64 → unpackedOf (getD cells i 0) ≡ ruleIn g i
+PackedRules g cells = (i : ℕ) → i < 64 → unpackedOf (getD cells i 0) ≡ cellOf (getElem? (g .rules) i)
 
 -- the end of the longest piece, in units
 abbrev pub lastUnit : ℕ
@@ -36,3 +40,12 @@ unitIn o = o .unit
 -- the units of the onsets, and the end of the longest piece in every place behind them
 unfoldable pub unitCells : Playing → List ℕ
 unitCells p = pad 513 lastUnit (map unitIn (p .onsets))
+
+-- a table holds the rules of an accepted sheet; a table holds its units
+pub record RulesHeld (s : Sheet) (cells : List ℕ) : Type 0 where
+  pub good : GoodRules (s .grammar)
+  pub rules : PackedRules (s .grammar) cells
+
+pub record UnitsHeld (s : Sheet) (units : List ℕ) : Type 0 where
+  pub good : GoodOnsets (s .playing)
+  pub cells : units ≡ unitCells (s .playing)

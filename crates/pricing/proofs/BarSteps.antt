@@ -106,11 +106,9 @@ module _ {s : Sheet} {g : GrammarTable} {p : PlayingTable} (h : SheetHeld s g p)
       record {
         lent =
             record {
-              good-rules = h .good .rules;
-              good-onsets = h .good .onsets;
-              rules = r;
+              rules = record { good = h .good .rules; rules = r };
               kids = ap (λ (x : GrammarTable). x .children) (h .grammar);
-              onsets = u;
+              onsets = record { good = h .good .onsets; cells = u };
             };
         within = omega (arith, size, h .good .onsets .sixty-four);
         in-bar = omega arith;

@@ -1,14 +1,15 @@
 -- The steps of `read_tree`: the list at its end, a rule that is refused, a leaf, a division and its parts.
-use Prim.Native.Nat.{ℕ, zero, suc, _+_, _-_, _*_, _/_, _≤_, _<_}
+use Prim.Native.Nat.{ℕ, _+_, _-_, _*_, _/_, _≤_, _<_}
 use mathlib.Core.Path.{_≡_, refl, sym, ap, subst, _∙_}
 use mathlib.Core.List.{List, [], _∷_, map}
-use mathlib.Core.Option.{none, some, Option·elim, Option·none-ne-some}
+use mathlib.Core.Option.{none, some, Option·elim}
 use native.Mathlib.Nat.{mul-le-mul-right, div-lt-self}
 use native.Mathlib.Numerals.{add-one}
 use native.Mathlib.Omega.{arith}
-use lib.ListN.{length, take, drop, getD, getElem?, drop-of-length-le}
+use lib.ListN.{length, take, drop, getD, drop-of-length-le}
 use lib.Seq.{drop-cons}
 use Rattle.slices.specs.Every.{every-some}
+use Rattle.slices.specs.Lookup.{some-below}
 use Rattle.slices.specs.Pad.{length-pad}
 use Rattle.sheet.specs.Sheet.{Rule, division, leaf, Sheet, barUnits}
 use Rattle.sheet.specs.Good.{GoodDivision, GoodRule, GoodRules}
@@ -37,22 +38,16 @@ weight-at s r ru w e f = rw e f
 good-rule : (s : Sheet) → GoodRules (s .grammar) → (r : ℕ) (ru : Rule) → ruleAt s r ≡ some ru → GoodRule (s .grammar .nonterminals) ru
 good-rule s g r ru e = every-some (GoodRule (s .grammar .nonterminals)) (s .grammar .rules) r ru (g .rules) e
 
-some-below : {A : Type 0} (xs : List A) (i : ℕ) (x : A) → getElem? xs i ≡ some x → i < length xs
-some-below [] i x e = absurd (Option·none-ne-some _ e)
-some-below (y ∷ xs) zero x e = omega arith
-some-below (y ∷ xs) (suc i) x e = omega (arith, some-below xs i x e)
-
 module _ {s : Sheet} {cells children units list : List ℕ} {over : Interval} {p : Progress}
     (h : ItemEntry s cells children units list over p) where
   -- what `expand` asks
   pub item-at : At s cells units over (p .from) (p .carried)
   item-at =
       record {
-        good = h .lent .good-rules;
         rules = h .lent .rules;
         entered =
             record {
-              here = record { good = h .lent .good-onsets; cells = h .lent .onsets; within = h .within; first = h .first };
+              here = record { onsets = h .lent .onsets; within = h .within; first = h .first };
               few = h .sized .few;
             };
       }
@@ -88,27 +83,27 @@ module _ {s : Sheet} {cells children units list : List ℕ} {over : Interval} {p
 
     module _ {w n e l d : ℕ} (m : LeafMade s g (p .carried) r w n e l d) where
       inside : e + l ≡ onsetsIn s (over .left .0) (over .len .0)
-      inside = omega (arith, m .early, m .late, early-late s (over .left .0) (over .len .0))
+      inside = omega (arith, m .fits .counts .early, m .fits .counts .late, early-late s (over .left .0) (over .len .0))
 
       from-next : p .from + (e + l) ≡ firstAt s (over .left .0 + over .len .0)
-      from-next = omega (arith, inside, h .first, first-next s (h .lent .good-onsets) (over .left .0) (over .len .0))
+      from-next = omega (arith, inside, h .first, first-next s (h .lent .onsets .good) (over .left .0) (over .len .0))
 
       far : d ≤ barUnits * (e + l)
       far =
           let most = mul-le-mul-right (onsetsIn s (over .left .0) (over .len .0)) (h .in-bar) in
-          rw inside (omega (arith, most, m .distance, own-distance-most s (over .left .0) (over .len .0)))
+          rw inside (omega (arith, most, m .fits .counts .distance, own-distance-most s (over .left .0) (over .len .0)))
 
       light : w ≤ 65535
-      light = good-rule s (h .lent .good-rules) r (leaf q w n) (m .rule) .weight
+      light = good-rule s (h .lent .rules .good) r (leaf q w n) (m .rule) .weight
 
       pub leaf-room : Room p (e + l) w d
       leaf-room =
           record {
             at = omega (arith, h .sized .in-list, h .sized .short);
-            from = omega (arith, from-next, first-most s (h .lent .good-onsets) (over .left .0 + over .len .0));
+            from = omega (arith, from-next, first-most s (h .lent .onsets .good) (over .left .0 + over .len .0));
             weight-most = omega (arith, h .sized .in-list, h .sized .short, h .sized .weight, light);
             distance-most =
-                omega (arith, from-next, first-most s (h .lent .good-onsets) (over .left .0 + over .len .0), h .sized .distance, far);
+                omega (arith, from-next, first-most s (h .lent .onsets .good) (over .left .0 + over .len .0), h .sized .distance, far);
           }
 
       pub leaf-walked : ItemWalked s list q over p (Upto (progressBehind p (e + l) l w d))
@@ -120,15 +115,15 @@ module _ {s : Sheet} {cells children units list : List ℕ} {over : Interval} {p
               reads-rule (instanceOf s) g (p .carried) r rest rest
               (atLeaf s g) (unspent (atLeaf s g .carry)) (m .expands)
               (reads-nil (instanceOf s) (atLeaf s g .carry) rest) hs);
-          carried = m .late;
+          carried = m .fits .counts .late;
           weight = omega (arith, weight-at s r (leaf q w n) w (m .rule) refl);
-          distance = omega (arith, m .distance);
+          distance = omega (arith, m .fits .counts .distance);
           sized =
               record {
                 in-list = omega arith;
                 short = h .sized .short;
                 onsets = leaf-room .from;
-                few = m .few;
+                few = m .fits .few;
                 weight = omega (arith, h .sized .weight, light);
                 distance = omega (arith, h .sized .distance, far);
               };
@@ -140,7 +135,7 @@ module _ {s : Sheet} {cells children units list : List ℕ} {over : Interval} {p
 
     module _ {w a : ℕ} (m : DivisionMade s g (p .carried) r w a) where
       good-parts : GoodDivision (s .grammar .nonterminals) q w (m .parts)
-      good-parts = good-rule s (h .lent .good-rules) r (division q w (m .parts)) (m .rule)
+      good-parts = good-rule s (h .lent .rules .good) r (division q w (m .parts)) (m .rule)
 
       -- the parts are shorter, and together as long as the whole
       pub parts-fall : (over .len .0 / a < over .len .0) × (a * (over .len .0 / a) ≡ over .len .0)
@@ -153,16 +148,16 @@ module _ {s : Sheet} {cells children units list : List ℕ} {over : Interval} {p
       arity-small = (
         omega (arith, m .count, good-parts .two),
         omega (arith, m .count, good-parts .eight),
-        omega (arith, some-below (s .grammar .rules) r _ (m .rule), h .lent .good-rules .most),
+        omega (arith, some-below (s .grammar .rules) r _ (m .rule), h .lent .rules .good .most),
       )
 
       pub rule-room : Room p 0 w 0
       rule-room =
           record {
             at = omega (arith, h .sized .in-list, h .sized .short);
-            from = omega (arith, h .first, first-most s (h .lent .good-onsets) (over .left .0));
+            from = omega (arith, h .first, first-most s (h .lent .onsets .good) (over .left .0));
             weight-most = omega (arith, h .sized .in-list, h .sized .short, h .sized .weight, good-parts .weight);
-            distance-most = omega (arith, h .first, first-most s (h .lent .good-onsets) (over .left .0), h .sized .distance);
+            distance-most = omega (arith, h .first, first-most s (h .lent .onsets .good) (over .left .0), h .sized .distance);
           }
 
       -- the table has the nonterminals of the parts
@@ -170,7 +165,7 @@ module _ {s : Sheet} {cells children units list : List ℕ} {over : Interval} {p
       kids-are =
           let e : 8 * r + a - 8 * r ≡ a = omega arith in
           rw (e, h .lent .kids, m .count)
-          (parts-of (s .grammar .rules) r q w (m .parts) (m .rule) (good-parts .eight) (h .lent .good-rules .most))
+          (parts-of (s .grammar .rules) r q w (m .parts) (m .rule) (good-parts .eight) (h .lent .rules .good .most))
 
       row-entry : RowEntry s cells children units list (m .parts) (interval (over .left .0) (over .len .0 / a))
           (progressBehind p 0 (p .carried) w 0)

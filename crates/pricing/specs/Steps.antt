@@ -4,7 +4,6 @@ use mathlib.Core.Path.{_≡_}
 use mathlib.Core.List.{List, [], _∷_, map}
 use lib.ListN.{length, drop}
 use Rattle.sheet.specs.Sheet.{Sheet, barUnits}
-use Rattle.sheet.specs.Good.{GoodRules, GoodOnsets}
 use Rattle.sheet.specs.Held.{partsOf, childCells}
 use Rattle.derivations.specs.Derivation.{Item, Price}
 use Rattle.derivations.specs.Reads.{Reads}
@@ -12,7 +11,7 @@ use Rattle.derivations.specs.Reads as reading
 use Rattle.trees.specs.ValidTrees.{row, bars}
 use Rattle.trees.specs.Instance.{instanceOf}
 use Rattle.expansions.specs.declared.Interval.{Interval}
-use Rattle.expansions.specs.Tables.{PackedRules, unitCells, lastUnit}
+use Rattle.expansions.specs.Tables.{RulesHeld, UnitsHeld, lastUnit}
 use Rattle.expansions.specs.Items.{firstAt, itemOf}
 use Rattle.pricing.specs.declared.Progress.{Progress}
 use Rattle.pricing.specs.declared.Walk.{Walk}
@@ -20,11 +19,9 @@ use Rattle.pricing.specs.declared.Walk.the-variants.{Stuck, Upto}
 
 -- the tables of a sheet, as they are lent
 pub record Lent (s : Sheet) (cells children units : List ℕ) : Type 0 where
-  pub good-rules : GoodRules (s .grammar)
-  pub good-onsets : GoodOnsets (s .playing)
-  pub rules : PackedRules (s .grammar) cells
+  pub rules : RulesHeld s cells
   pub kids : children ≡ childCells (map partsOf (s .grammar .rules))
-  pub onsets : units ≡ unitCells (s .playing)
+  pub onsets : UnitsHeld s units
 
 -- The sums stay small: each rule read weighs at most 65,535, and each onset passed is at most a bar away. No tree is longer than 41,024.
 pub record Sized (list : List ℕ) (p : Progress) : Type 0 where

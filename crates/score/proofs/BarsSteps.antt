@@ -71,7 +71,7 @@ module _ {s : Sheet} {cells us ps list : List ℕ} {count to : ℕ} {score : Lis
               ends = omega arith;
             };
         ahead = record {
-          stands = record { first = sym (first-zero s (h .onsets .good)); before = omega arith; few = omega arith };
+          stands = record { first = sym (first-zero s (h .onsets .units .good)); before = omega arith; few = omega arith };
           price = read .0;
           read = ap (λ gs. derive (instanceOf s) list gs 0) (bars-row s) ∙ read .1;
           room = omega (arith, h .room, ap length whole-text);

@@ -110,13 +110,13 @@ module _ {s : Sheet} {us ps : List ℕ} {over : Interval} {n : ℕ} {p : Place} 
   len = over .len .0
 
   good : GoodOnsets (s .playing)
-  good = h .onsets .good
+  good = h .onsets .units .good
 
   within : left + len ≤ lastUnit
   within = omega (arith, h .in-bar .below, h .in-bar .ends, good .sixty-four)
 
   pub here : Here s us over (p .from)
-  here = record { good = good; cells = h .onsets .units; within = within; first = h .stands .first }
+  here = record { onsets = h .onsets .units; within = within; first = h .stands .first }
 
   pub cells-size : length ps ≡ 512
   unfolding pitchCells

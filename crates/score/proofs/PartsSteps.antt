@@ -23,7 +23,8 @@ use Rattle.expansions.specs.declared.Interval.{Interval}
 use Rattle.expansions.specs.Items.{interval, itemOf}
 use Rattle.score.specs.declared.tree.Place.{Place}
 use Rattle.score.specs.Score.{leafLines}
-use Rattle.score.specs.Steps.{RulesHeld, OnsetsHeld, carriedInto, textLeft, Ahead, WentOn, TreeEntry, TreeWritten}
+use Rattle.expansions.specs.Tables.{RulesHeld}
+use Rattle.score.specs.Steps.{OnsetsHeld, carriedInto, textLeft, Ahead, WentOn, TreeEntry, TreeWritten}
 use Rattle.score.proofs.TreeSteps.{behindRule, DivisionHere, front}
 
 -- intervals of `len` units in a row from `left` on are to be written, and then the items that follow

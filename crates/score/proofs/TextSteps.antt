@@ -66,7 +66,7 @@ module _ {s : Sheet} {g : GrammarTable} {pl : PlayingTable} {list : List ℕ} {R
     bars-given cells us f e =
         record {
           rules = record { good = h .held .good .rules; rules = f };
-          onsets = record { good = h .held .good .onsets; units = e; pitches = pitches-are };
+          onsets = record { units = record { good = h .held .good .onsets; cells = e }; pitches = pitches-are };
           bars = bars-are;
           valid = h .valid;
           room = omega (arith, size, head-end, ap length head-text, length-over headText score);

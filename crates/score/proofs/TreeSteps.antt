@@ -1,5 +1,5 @@
 -- The steps of `write_tree` at an item that is read: which rule stands there, and what is left behind a leaf. `PartsSteps` has divisions.
-use Prim.Native.Nat.{ℕ, zero, suc, _+_, _/_, _≤_, _<_}
+use Prim.Native.Nat.{ℕ, _+_, _/_, _≤_, _<_}
 use mathlib.Core.Path.{_≡_, sym, ap, subst, _∙_}
 use mathlib.Core.Bool.{true}
 use mathlib.Core.List.{List, [], _∷_, _++_}
@@ -7,7 +7,7 @@ use mathlib.Core.Logic.{_⊎_, inl, inr}
 use mathlib.Core.Option.{some, Option·none-ne-some}
 use native.Mathlib.Decide.{decLt}
 use native.Mathlib.Omega.{arith}
-use lib.ListN.{length, drop, getD, getElem?, length-append, drop-of-length-le}
+use lib.ListN.{length, drop, getD, length-append, drop-of-length-le}
 use Rattle.slices.specs.Over.{overFrom, over-from-append, length-over-from}
 use Rattle.hextext.specs.Laws.{drop-step}
 use Rattle.sheet.specs.declared.table.Rule as cell
@@ -19,21 +19,18 @@ use Rattle.trees.specs.Instance.{lateCount, atLeaf, atDivision, instanceOf}
 use Rattle.trees.specs.Expansions.{Step, step-of}
 use Rattle.trees.specs.Leaves.{leavesFrom, leaves-leaf}
 use Rattle.expansions.specs.declared.Interval.{Interval}
-use Rattle.expansions.specs.Tables.{unpackedOf}
+use Rattle.expansions.specs.Tables.{unpackedOf, cellOf}
+use Rattle.expansions.specs.RuleCells.{leaf≢division}
+use Rattle.slices.specs.Lookup.{some-below}
 use Rattle.expansions.specs.Items.{itemOf}
 use Rattle.score.specs.declared.tree.Place.{Place}
 use Rattle.score.specs.Score.{leafLines}
 use Rattle.score.specs.Steps.{carriedInto, leafText, LeafEntry, LeafWritten, textLeft, TreeEntry, TreeWritten}
-use Rattle.score.proofs.CountSteps.{cellOf, cell-at, leaf≢division}
+use Rattle.score.proofs.CountSteps.{cell-at}
 
 -- the place behind a rule
 abbrev pub behindRule : Place → Place
 behindRule p = record { at = p .at + 1; from = p .from; carried = p .carried; to = p .to }
-
-some-below : {A : Type 0} (xs : List A) (i : ℕ) (x : A) → getElem? xs i ≡ some x → i < length xs
-some-below [] i x e = absurd (Option·none-ne-some _ e)
-some-below (y ∷ xs) zero x e = omega arith
-some-below (y ∷ xs) (suc i) x e = omega (arith, some-below xs i x e)
 
 -- ---- what stands at an item
 

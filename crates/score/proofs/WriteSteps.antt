@@ -18,7 +18,7 @@ use Rattle.sheet.specs.Held.{readingOf}
 use Rattle.trees.specs.ValidTrees.{ValidTree, totalOf}
 use Rattle.trees.specs.ValidTrees as trees
 use Rattle.trees.specs.Theorems.{node-count}
-use Rattle.expansions.specs.Tables.{PackedRules}
+use Rattle.expansions.specs.Tables.{PackedRules, RulesHeld}
 use Rattle.pricing.specs.declared.Priced.{Priced}
 use Rattle.pricing.specs.Pricing as pricing
 use Rattle.pricing.specs.Pricing.{priced, noTree, priceSheet, pricedOf}
@@ -28,7 +28,7 @@ use Rattle.score.specs.ScoreLaws.{textSize, score-length}
 use Rattle.score.specs.LeafRules.{leafRules, leaf-rules-most, leaf-rules-entries}
 use Rattle.score.specs.Writing.{Outcome, refusal, written, textWithin, writePriced, writeSheet, writeRead, writeText, writtenOf}
 use Rattle.score.specs.Writing.{scoreAfter}
-use Rattle.score.specs.Steps.{RulesHeld, textOf, TextEntry, TextWritten}
+use Rattle.score.specs.Steps.{textOf, TextEntry, TextWritten}
 
 -- what an entry promises: its result and the score slice are those of the outcome
 abbrev pub Promised : Outcome → Written → (score score′ : List ℕ) → Type 0

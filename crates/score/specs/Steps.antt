@@ -10,7 +10,6 @@ use Rattle.hextext.specs.Written.{lineText}
 use Rattle.sheet.specs.declared.table.GrammarTable.{GrammarTable}
 use Rattle.sheet.specs.declared.table.PlayingTable.{PlayingTable}
 use Rattle.sheet.specs.Sheet.{Onset, Playing, Sheet}
-use Rattle.sheet.specs.Good.{GoodRules, GoodOnsets}
 use Rattle.sheet.specs.Held.{pitchOf}
 use Rattle.sheet.specs.Accepted.{SheetHeld}
 use Rattle.derivations.specs.Derivation.{Item, Price, derive}
@@ -19,7 +18,7 @@ use Rattle.trees.specs.Instance.{lateCount, instanceOf}
 use Rattle.trees.specs.Leaves.{leavesFrom, entriesOf}
 use Rattle.trees.specs.LeafBounds.{InOneBar}
 use Rattle.expansions.specs.declared.Interval.{Interval}
-use Rattle.expansions.specs.Tables.{PackedRules, unitCells}
+use Rattle.expansions.specs.Tables.{RulesHeld, UnitsHeld}
 use Rattle.expansions.specs.Items.{firstAt, itemOf}
 use Rattle.score.specs.declared.tree.Place.{Place}
 use Rattle.score.specs.Score.{bigEndian, leafLine, leafLines, scoreText}
@@ -30,13 +29,8 @@ use Rattle.score.specs.Score.{bigEndian, leafLine, leafLines, scoreText}
 unfoldable pub pitchCells : Playing → List ℕ
 pitchCells p = pad 512 0 (map pitchOf (p .onsets))
 
-pub record RulesHeld (s : Sheet) (cells : List ℕ) : Type 0 where
-  pub good : GoodRules (s .grammar)
-  pub rules : PackedRules (s .grammar) cells
-
 pub record OnsetsHeld (s : Sheet) (us ps : List ℕ) : Type 0 where
-  pub good : GoodOnsets (s .playing)
-  pub units : us ≡ unitCells (s .playing)
+  pub units : UnitsHeld s us
   pub pitches : ps ≡ pitchCells (s .playing)
 
 -- ---- a leaf's line

@@ -7,7 +7,8 @@ ghost use Rattle.sheet.specs.Accepted.{SheetHeld};
 ghost use Rattle.score.specs.ScoreLaws.{textSize};
 ghost use Rattle.score.specs.LeafRules.{leafOne, leafRules};
 ghost use Rattle.score.specs.Writing.{refusal, writeSheet, writeText, writtenOf, scoreAfter};
-ghost use Rattle.score.specs.Steps.{RulesHeld, TextEntry, TextWritten};
+ghost use Rattle.expansions.specs.Tables.{RulesHeld};
+ghost use Rattle.score.specs.Steps.{TextEntry, TextWritten};
 
 mod line;
 mod tree;

@@ -1,15 +1,16 @@
 -- What the theory of derivations asks of a sheet's instance: it has so many rules, the carry never passes 3, and lengths fall from an item
 -- to its parts.
-use Prim.Native.Nat.{ℕ, zero, suc, _+_, _-_, _*_, _/_, _≤_, _<_}
-use mathlib.Core.Path.{_≡_, refl, ap, subst, _∙_}
+use Prim.Native.Nat.{ℕ, suc, _+_, _-_, _*_, _/_, _<_}
+use mathlib.Core.Path.{_≡_, ap, subst, _∙_}
 use mathlib.Core.Bool.{true}
 use mathlib.Core.List.{List, [], _∷_, _++_}
 use mathlib.Core.Logic.{inl, inr}
 use mathlib.Core.Option.{none, some, Option·elim}
-use native.Mathlib.Nat.{not-suc-le-zero, le-of-suc-le-suc, div-lt-self}
+use native.Mathlib.Nat.{div-lt-self}
 use native.Mathlib.Omega.{arith}
-use lib.ListN.{length, getElem?}
+use lib.ListN.{length}
 use Rattle.slices.specs.Every.{Every}
+use Rattle.slices.specs.Lookup.{past-end}
 use Rattle.sheet.specs.Sheet.{division, Sheet}
 use Rattle.sheet.specs.Good.{GoodRules}
 use Rattle.derivations.specs.Derivation.{Item, Expansion, Lawful}
@@ -19,12 +20,6 @@ use Rattle.trees.specs.Instance.{atLeaf, atDivision, instanceOf}
 use Rattle.trees.specs.Expansions.{Step, step-of}
 use Rattle.trees.specs.Onsets.{divided-long}
 use Rattle.trees.specs.Room.{good-division}
-
--- past the end there is no rule
-past-end : {A : Type 0} (xs : List A) (i : ℕ) → length xs ≤ i → getElem? xs i ≡ none
-past-end [] i h = refl
-past-end (x ∷ xs) zero h = absurd (not-suc-le-zero h)
-past-end (x ∷ xs) (suc i) h = past-end xs i (le-of-suc-le-suc h)
 
 -- a property of the intervals in a row, by their places
 pub row-every : (X : Item → Type 0) (l p : ℕ) (qs : List ℕ)

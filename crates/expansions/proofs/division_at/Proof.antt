@@ -46,7 +46,7 @@ mul-if3 : tie.Need-mul-if3
 mul-if3 c =
     let start = c .before .before .before .before in
     let p = start .pre in
-    let h = first-most (p .0) (p .1 .good) (start .args .over .left .0) in
+    let h = first-most (p .0) (p .1 .onsets .good) (start .args .over .left .0) in
     let e = p .1 .first in
     search needs
 
@@ -54,7 +54,7 @@ element-copy-out-if3 : tie.Need-element-copy-out-if3
 element-copy-out-if3 c =
     let start = c .before .before .before .before in
     let p = start .pre in
-    omega (arith, p .1 .first, first-most (p .0) (p .1 .good) (start .args .over .left .0))
+    omega (arith, p .1 .first, first-most (p .0) (p .1 .onsets .good) (start .args .over .left .0))
 
 returns-3 : tie.Need-returns-3
 returns-3 c =

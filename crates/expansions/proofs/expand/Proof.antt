@@ -3,7 +3,9 @@ use mathlib.Core.Path.{sym, _∙_}
 use native.Mathlib.Omega.{arith}
 use Rattle.trees.specs.Instance.{instanceOf}
 use Rattle.trees.specs.Laws.{lawful}
-use Rattle.expansions.proofs.ExpandSteps.{leaf-rule, leaf-other, leaf-as, division-as, division-not}
+use Rattle.trees.specs.ValidTrees.{ruleAt}
+use Rattle.expansions.specs.RuleCells.{leaf-rule}
+use Rattle.expansions.proofs.ExpandSteps.{leaf-other, leaf-as, division-as, division-not}
 use borrow.Author.Needs.{needs}
 use Rattle.expansions.proofs.expand.Statement.{statement}
 use Rattle.expansions.proofs.expand.Tie as tie
@@ -12,7 +14,7 @@ returns : tie.Need-returns
 unfolding instanceOf
 returns c =
     let if1 = c .if1 in
-    λ s h. lawful s .ends _ _ _ (omega (arith, if1 .taken, h .good .most))
+    λ s h. lawful s .ends _ _ _ (omega (arith, if1 .taken, h .rules .good .most))
 
 rule-at-requires : tie.Need-rule-at-requires
 rule-at-requires c κs = search needs
@@ -27,7 +29,7 @@ returns-2 c =
     let rule-at = c .before .before .before .before .rule-at in
     let rule = c .before .before .rule in
     let if2 = c .if2 in
-    λ s h. leaf-other s _ _ _ _ _ _ _ (leaf-rule (s .grammar .rules) (start .args .r) _ _ _ (sym (h .rules _ (omega (
+    λ s h. leaf-other s _ _ _ _ _ _ _ (leaf-rule (ruleAt s (start .args .r)) _ _ _ (sym (h .rules .rules _ (omega (
       arith,
       if1 .left,
     ))) ∙ sym (rule-at .ensures) ∙ rule .given .1)) (if2 .taken)
@@ -46,7 +48,7 @@ returns-3 c =
     let rule-at = c .before .before .before .before .rule-at in
     let rule2 = c .before .before .rule2 in
     let if3 = c .if3 in
-    λ s h. division-not s _ _ _ _ _ _ _ (sym (h .rules _ (omega (arith, if1 .left))) ∙ sym (rule-at .ensures) ∙ rule2 .given .1)
+    λ s h. division-not s _ _ _ _ _ _ _ (sym (h .rules .rules _ (omega (arith, if1 .left))) ∙ sym (rule-at .ensures) ∙ rule2 .given .1)
     (if3 .taken)
 
 division-at-requires : tie.Need-division-at-requires
@@ -63,9 +65,9 @@ returns-4 c =
     let if2 = c .before .if2 in
     let leaf-at = c .leaf-at in
     λ s h. let a = start .args in
-    leaf-as s (a .nonterminal) (a .over) (a .carried) (a .r) _ _ _ (leaf-at .result) (leaf-rule (s .grammar .rules)
-    (start .args .r) _ _ _ (sym (h .rules _ (omega (arith, if1 .left))) ∙ sym (rule-at .ensures) ∙ rule .given .1)) (if2 .left)
-    (leaf-at .ensures s (h .entered))
+    leaf-as s (a .nonterminal) (a .over) (a .carried) (a .r) _ _ _ (leaf-at .result) (leaf-rule (ruleAt s (start .args .r)) _ _ _ (sym
+    (h .rules .rules _ (omega (arith, if1 .left))) ∙ sym (rule-at .ensures) ∙ rule .given .1)) (if2 .left) (leaf-at .ensures s
+    (h .entered))
 
 returns-5 : tie.Need-returns-5
 returns-5 c =
@@ -76,10 +78,8 @@ returns-5 c =
     let division-at = c .division-at in
     let if3 = c .before .if3 in
     λ s h. let a = start .args in
-    division-as s (a .nonterminal) (a .over) (a .carried) (a .r) (h .good) _ _ _ (division-at .result) (sym (h .rules _ (omega (
-      arith,
-      if1 .left,
-    ))) ∙ sym (rule-at .ensures) ∙ rule2 .given .1) (if3 .left) (division-at .ensures s (h .entered .here))
+    division-as s (a .nonterminal) (a .over) (a .carried) (a .r) (h .rules .good) _ _ _ (division-at .result) (sym (h .rules .rules _
+    (omega (arith, if1 .left))) ∙ sym (rule-at .ensures) ∙ rule2 .given .1) (if3 .left) (division-at .ensures s (h .entered .here))
 
 pub expand-spec : {M : Type 1} → statement M
 expand-spec =

@@ -28,7 +28,7 @@ add-token-of c =
     let o = start .args .over in
     let p = place .ensures s (h .here) in
     let few = h .few in
-    let most = h .here .good .most in
+    let most = h .here .onsets .good .most in
     let e = p .early in
     let n = onsets-most s (o .left .0) (o .len .0) in
     let m = early-late s (o .left .0) (o .len .0) in
@@ -52,18 +52,8 @@ returns-3 c =
     let if1 = c .before .before .if1 in
     let token-of = c .before .token-of in
     let if2 = c .if2 in
-    λ s h. let p = place .ensures s (h .here) in (
-      refl,
-      refl,
-      record {
-        early = p .early;
-        late = p .late;
-        distance = p .distance;
-        kind = if2 .left ∙ token-of .ensures;
-        few = omega
-            (arith, if1 .left);
-      },
-    )
+    λ s h. let p = place .ensures s (h .here) in
+    (refl, refl, record { counts = p; kind = if2 .left ∙ token-of .ensures; few = omega (arith, if1 .left) })
 
 pub leaf-at-spec : {M : Type 1} → statement M
 leaf-at-spec =

@@ -13,6 +13,7 @@ use Rattle.sheet.specs.Sheet.{Grammar}
 use Rattle.sheet.specs.Held.{ruleCell, noRule, grammarTable}
 use Rattle.sheet.specs.declared.table.GrammarTable.{GrammarTable}
 use Rattle.expansions.specs.Tables.{unpackedOf, PackedRules}
+use Rattle.expansions.specs.RuleCells.{cell-in}
 use Rattle.expansions.proofs.pack_rules.Statement.{statement}
 use Rattle.expansions.proofs.pack_rules.Tie as tie
 
@@ -37,7 +38,7 @@ all : {g : GrammarTable} {out : List ℕ} {i : ℕ} → Cells g out i → 64 ≤
 unfolding grammarTable
 all {g} t l h e m n =
     t .each m (omega arith) ∙ ap (λ (x : GrammarTable). getD (x .rules) m noRule .rule) e
-    ∙ ap (λ c. c .rule) (getD-pad 64 noRule (map ruleCell (h .rules)) m n)
+    ∙ ap (λ c. c .rule) (getD-pad 64 noRule (map ruleCell (h .rules)) m n) ∙ cell-in (h .rules) m
 
 abbrev Inv-loop : tie.InvT-loop
 Inv-loop g out₀ i₀ out i = (i ≤ 64) × Cells g out i

@@ -123,7 +123,7 @@ module _ (t : ℕ) where
       let g = parts-entry h (d .1) (d .2) in
       let u = loop .inv .3 _ _ (d .0) (d .1) g in
       let b = part-entry g (loop .j) (omega (arith, loop-test .taken, d .1)) (loop .left) (loop .inv .1) _ _ u .in-bar in
-      let y = h .onsets .good .sixty-four in
+      let y = h .onsets .units .good .sixty-four in
       record { fits = omega arith }
 
   write-tree-add-j : write-tree-lts.Need-add-j calls (write-tree-at t) write-tree.Post write-tree-Inv-loop write-tree-μ-loop

@@ -24,7 +24,11 @@ loop-holds : tie.Need-loop-holds Inv-loop μ-loop
 loop-holds c = (search needs, refl, λ s h. parts-none (bars-entry h))
 
 mul-t14 : tie.Need-mul-t14 Inv-loop μ-loop
-mul-t14 c = let h = c .before .before .before .before .pre .1 in let f = h .onsets .good .sixty-four in let e = h .bars in search needs
+mul-t14 c =
+    let h = c .before .before .before .before .pre .1 in
+    let f = h .onsets .units .good .sixty-four in
+    let e = h .bars in
+    search needs
 
 write-tree-requires : tie.Need-write-tree-requires Inv-loop μ-loop
 write-tree-requires c κs =
