@@ -15,6 +15,7 @@ use Rattle.trees.specs.Instance.{instanceOf}
 use Rattle.trees.specs.Laws.{row-append}
 use Rattle.expansions.specs.Items.{interval, firstAt, itemOf}
 use Rattle.pricing.specs.declared.Progress.{Progress}
+use Rattle.pricing.specs.declared.Walk.{Walk}
 use Rattle.pricing.specs.declared.Walk.the-variants.{Stuck, Upto}
 use Rattle.pricing.specs.Steps.{Sized, Passed, NotPassed, ItemEntry, ItemWalked, RowEntry, RowWalked}
 
@@ -90,8 +91,8 @@ module _ {s : Sheet} {cells children units list ks : List ℕ} {l n : ℕ} {a : 
         ∙ ap (λ x. row l n (take j ks) ++ row x n (getD ks j 0 ∷ drop (suc j) ks))
         (omega (arith, e, ap (λ x. x * n) (length-take-le j ks (omega arith))))
 
-    pub row-more : (q : Progress) → ItemWalked s list (getD ks j 0) (interval left n) p (Upto q) → InRow s list l n ks (j + 1) a q
-    row-more q w =
+    more-by : (q : Progress) → ItemWalked s list (getD ks j 0) (interval left n) p (Upto q) → InRow s list l n ks (j + 1) a q
+    more-by q w =
         record {
           passed = subst (λ gs. Passed s list gs a q) (sym one-more) (passed-append _ _ a p q (i .passed) (w .0));
           from = w .1 ∙ ap (firstAt s) (omega arith);
@@ -103,9 +104,19 @@ module _ {s : Sheet} {cells children units list ks : List ℕ} {l n : ℕ} {a : 
             ∙ ap (λ x. row l n (take j ks) ++ row x n (getD ks j 0 ∷ []))
             (omega (arith, e, ap (λ x. x * n) (length-take-le j ks (omega arith))))
 
-    pub row-stuck : ItemWalked s list (getD ks j 0) (interval left n) p Stuck → RowWalked s list ks (interval l n) a Stuck
-    row-stuck w =
+    stuck-by : ItemWalked s list (getD ks j 0) (interval left n) p Stuck → RowWalked s list ks (interval l n) a Stuck
+    stuck-by w =
         subst (λ gs. NotPassed s list gs a) (sym in-three)
         (not-passed-append _ _ a p (i .passed)
         (stuck-front (instanceOf s) (itemOf (getD ks j 0) (interval left n) ∷ []) (row (left + n) n (drop (suc j) ks)) (p .carried)
         (drop (p .at) list) w))
+
+    -- what the call for the next interval tells, by its result x
+    abbrev Told : Walk → Type 0
+    Told x = ItemEntry s cells children units list (interval left n) p → ItemWalked s list (getD ks j 0) (interval left n) p x
+
+    pub row-more : (x : Walk) (q : Progress) → Told x → x ≡ Upto q → InRow s list l n ks (j + 1) a q
+    row-more x q f e = more-by q (subst (ItemWalked s list (getD ks j 0) (interval left n) p) e (f row-item))
+
+    pub row-stuck : (x : Walk) → Told x → x ≡ Stuck → RowWalked s list ks (interval l n) a Stuck
+    row-stuck x f e = stuck-by (subst (ItemWalked s list (getD ks j 0) (interval left n) p) e (f row-item))

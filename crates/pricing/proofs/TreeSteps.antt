@@ -23,7 +23,9 @@ use Rattle.trees.specs.Instance.{onsetsIn, atLeaf, atDivision, instanceOf}
 use Rattle.trees.specs.Expansions.{may-divide, parts-whole}
 use Rattle.trees.specs.Onsets.{early-late, own-distance-most, divided-long}
 use Rattle.expansions.specs.declared.Interval.{Interval}
-use Rattle.expansions.specs.Items.{interval, firstAt, itemOf, At, LeafMade, DivisionMade}
+use Rattle.expansions.specs.declared.Expansion.{Expansion}
+use Rattle.expansions.specs.declared.Expansion.the-variants.{Refused, Leaf, Division}
+use Rattle.expansions.specs.Items.{interval, firstAt, itemOf, At, LeafMade, DivisionMade, Expands}
 use Rattle.expansions.specs.Places.{first-next, first-most}
 use Rattle.pricing.specs.declared.Progress.{Progress}
 use Rattle.pricing.specs.declared.Walk.{Walk}
@@ -75,9 +77,25 @@ module _ {s : Sheet} {cells children units list : List ℕ} {over : Interval} {p
     abbrev g : Item
     g = itemOf q over
 
-    pub rule-refused : instanceOf s .expand g (p .carried) r ≡ none → NotPassed s list (g ∷ []) p
-    rule-refused e = subst (λ xs. reading.Stuck (instanceOf s) (g ∷ []) (p .carried) xs) (sym (front k))
+    -- what `expand` tells, by its result x
+    abbrev Told : Expansion → Type 0
+    Told x = At s cells units over (p .from) (p .carried) → Expands s g (p .carried) r x
+
+    told : (x y : Expansion) → x ≡ y → Told x → Expands s g (p .carried) r y
+    told x y e f = subst (Expands s g (p .carried) r) e (f item-at)
+
+    pub leaf-told : {w n e l d : ℕ} (x : Expansion) → x ≡ Leaf w n e l d → Told x → LeafMade s g (p .carried) r w n e l d
+    leaf-told x e f = told x _ e f
+
+    pub division-told : {w a : ℕ} (x : Expansion) → x ≡ Division w a → Told x → DivisionMade s g (p .carried) r w a
+    division-told x e f = told x _ e f
+
+    no-expansion : instanceOf s .expand g (p .carried) r ≡ none → NotPassed s list (g ∷ []) p
+    no-expansion e = subst (λ xs. reading.Stuck (instanceOf s) (g ∷ []) (p .carried) xs) (sym (front k))
         (stuck-rule (instanceOf s) g (p .carried) r rest e)
+
+    pub rule-refused : (x : Expansion) → x ≡ Refused → Told x → NotPassed s list (g ∷ []) p
+    rule-refused x e f = no-expansion (told x Refused e f)
 
     -- ---- a leaf
 
@@ -106,9 +124,9 @@ module _ {s : Sheet} {cells children units list : List ℕ} {over : Interval} {p
                 omega (arith, from-next, first-most s (h .lent .onsets .good) (over .left .0 + over .len .0), h .sized .distance, far);
           }
 
-      pub leaf-walked : ItemWalked s list q over p (Upto (progressBehind p (e + l) l w d))
+      walked : ItemWalked s list q over p (Upto (progressBehind p (e + l) l w d))
       unfolding atLeaf
-      leaf-walked = (
+      walked = (
         record {
           price = priceOf (instanceOf s .weight r) (atLeaf s g) ⊞ unspent (atLeaf s g .carry);
           reads = λ hs. rw (front k) (
@@ -130,6 +148,9 @@ module _ {s : Sheet} {cells children units list : List ℕ} {over : Interval} {p
         },
         from-next,
       )
+
+      pub leaf-walked : (b : Progress) → b ≡ progressBehind p (e + l) l w d → ItemWalked s list q over p (Upto b)
+      leaf-walked b f = subst (λ b. ItemWalked s list q over p (Upto b)) (sym f) walked
 
     -- ---- a division
 
@@ -214,8 +235,10 @@ module _ {s : Sheet} {cells children units list : List ℕ} {over : Interval} {p
           )
 
       pub parts-walked : (kids : List ℕ) (n : Progress) → kids ≡ m .parts → n ≡ progressBehind p 0 (p .carried) w 0 → (x : Walk)
-          → RowWalked s list kids (interval (over .left .0) (over .len .0 / a)) n x → ItemWalked s list q over p x
+          → (RowEntry s cells children units list kids (interval (over .left .0) (over .len .0 / a)) n
+          → RowWalked s list kids (interval (over .left .0) (over .len .0 / a)) n x)
+          → ItemWalked s list q over p x
       parts-walked kids n e f x t =
           let first = interval (over .left .0) (over .len .0 / a) in
-          division-walked x
-          (subst (λ n. RowWalked s list (m .parts) first n x) f (subst (λ ks. RowWalked s list ks first n x) e t))
+          let row = subst (λ ks. RowWalked s list ks first n x) e (t (parts-entry kids n e f)) in
+          division-walked x (subst (λ n. RowWalked s list (m .parts) first n x) f row)

@@ -2,17 +2,16 @@
 -- row: a row's intervals are entered with a smaller measure, and a division's parts are shorter than its interval. The invariant of the
 -- loop over a row: the first `j` intervals are read (`InRow`), and `left` is the left bound of the next. Assumes nothing.
 use borrow.Author.Needs.{needs}
-use Prim.Native.Nat.{_+_, _-_, _*_, _≤_}
-use mathlib.Core.Path.{_≡_, sym, subst}
+use Prim.Native.Nat.{_+_, _-_, _*_, _≤_, _<_}
+use mathlib.Core.Path.{_≡_}
 use native.Mathlib.Omega.{arith}
 use lib.ListN.{length, getD}
 use Rattle.sheet.specs.Sheet.{Sheet}
-use Rattle.expansions.specs.Items.{interval, itemOf, Expands}
-use Rattle.pricing.specs.declared.Walk.the-variants.{Upto}
-use Rattle.pricing.specs.Steps.{ItemWalked, RowEntry}
+use Rattle.expansions.specs.Items.{interval}
+use Rattle.pricing.specs.Steps.{Room, RowEntry}
 use Rattle.pricing.proofs.RowSteps.{InRow, row-none, row-all, next-within, row-item, row-more, row-stuck}
-use Rattle.pricing.proofs.TreeSteps.{item-at, list-ends, rule-refused, leaf-room, leaf-walked, parts-fall, arity-small, rule-room}
-use Rattle.pricing.proofs.TreeSteps.{children-length, kids-are, parts-entry, parts-walked}
+use Rattle.pricing.proofs.TreeSteps.{item-at, children-length, list-ends, leaf-told, division-told, rule-refused, leaf-room}
+use Rattle.pricing.proofs.TreeSteps.{leaf-walked, parts-fall, arity-small, rule-room, kids-are, parts-entry, parts-walked}
 use Prim.Native.Nat.{ℕ, _<_}
 use borrow.Fn.Kinds.{In}
 use borrow.Fn.PlainCycle.{Measures, is, falls, and}
@@ -97,16 +96,14 @@ module _ (t : ℕ) where
 
   read-row-returns : read-row-lts.Need-returns read-row-calls (read-row-at t) read-row.Post read-row-Inv-loop read-row-μ-loop
   read-row-returns c =
-      let start = c .before .before .before .before .before .before .before .before .before in
       let loop = c .before .before .before .before .before .loop in
       let loop-test = c .before .before .before .before .loop-test in
       let read-tree = c .before .before .read-tree in
       let enum-told = c .enum-told in
       let l = loop in
       let k = loop-test .taken in
-      λ s h. row-stuck h (l .j) (l .left) (l .next) (l .inv .2 s h) k (l .inv .0) (subst (λ x. ItemWalked s (start .args .list .now)
-      (getD (start .args .kids .now) (l .j) 0) (interval (l .left) (start .args .first .len .0)) (l .next) x) (enum-told .given .1)
-      (read-tree .ensures s (row-item h (l .j) (l .left) (l .next) (l .inv .2 s h) k (l .inv .0))))
+      λ s h. row-stuck h (l .j) (l .left) (l .next) (l .inv .2 s h) k (l .inv .0) (read-tree .result) (read-tree .ensures s)
+      (enum-told .given .1)
 
   read-row-enum-known-w : read-row-lts.Need-enum-known-w read-row-calls (read-row-at t) read-row.Post read-row-Inv-loop read-row-μ-loop
   read-row-enum-known-w c = search needs
@@ -116,7 +113,6 @@ module _ (t : ℕ) where
 
   read-row-loop-again : read-row-lts.Need-loop-again read-row-calls (read-row-at t) read-row.Post read-row-Inv-loop read-row-μ-loop
   read-row-loop-again c =
-      let start = c .before .before .before .before .before .before .before .before .before .before in
       let loop = c .before .before .before .before .before .before .loop in
       let loop-test = c .before .before .before .before .before .loop-test in
       let read-tree = c .before .before .before .read-tree in
@@ -125,9 +121,8 @@ module _ (t : ℕ) where
       let k = loop-test .taken in (
         omega arith,
         omega arith,
-        λ s h. row-more h (l .j) (l .left) (l .next) (l .inv .2 s h) k (l .inv .0) _ (subst (λ x. ItemWalked s
-            (start .args .list .now) (getD (start .args .kids .now) (l .j) 0) (interval (l .left) (start .args .first .len .0)) (l .next) x)
-            (w .given .1) (read-tree .ensures s (row-item h (l .j) (l .left) (l .next) (l .inv .2 s h) k (l .inv .0)))),
+        λ s h. row-more h (l .j) (l .left) (l .next) (l .inv .2 s h) k (l .inv .0) (read-tree .result) _
+            (read-tree .ensures s) (w .given .1),
       )
 
   read-row-returns-2 : read-row-lts.Need-returns-2 read-row-calls (read-row-at t) read-row.Post read-row-Inv-loop read-row-μ-loop
@@ -141,6 +136,36 @@ module _ (t : ℕ) where
   -- the readings of the callees of `read-tree`
   abbrev read-tree-calls : read-tree-lts.Claims
   read-tree-calls = (expand-reads.Asked, expand-reads.Learnt, behind-reads.Asked, behind-reads.Learnt, read-row-below t, read-row.Post)
+
+  -- a leaf: the sums behind it fit
+  leaf-fits : (c : read-tree-lts.After-known-told read-tree-calls (read-tree-at t) read-tree.Post)
+      → let a = c .before .before .before .before .before .before .before .before .args in
+      let x = c .before .x .given .0 in
+      Room (a .p) (x .1 .1 .0 + x .1 .1 .1 .0) (x .0) (x .1 .1 .1 .1 .0)
+  leaf-fits c =
+      let start = c .before .before .before .before .before .before .before .before in
+      let if1 = c .before .before .before .before .before .if1 in
+      let expand = c .before .before .before .expand in
+      let q = start .args .nonterminal in
+      let h = start .pre .1 .1 in
+      let k : start .args .p .at < length (start .args .list .now) = omega (arith, if1 .left) in
+      leaf-room h q k (leaf-told h q k (expand .result) (c .before .x .given .1) (expand .ensures (start .pre .1 .0)))
+
+  -- a division: its rule stands in the table and has two to eight parts
+  division-fits : (c : read-tree-lts.After-struct-known read-tree-calls (read-tree-at t) read-tree.Post)
+      → let a = c .before .before .before .before .before .before .before .before .before .args in
+      let arity = c .before .before .x2 .given .0 .1 .0 in
+      (2 ≤ arity) × (arity ≤ 8) × (getD (a .list .now) (a .p .at) 0 < 64) × (length (a .children .now) ≡ 512)
+  division-fits c =
+      let start = c .before .before .before .before .before .before .before .before .before in
+      let if1 = c .before .before .before .before .before .before .if1 in
+      let expand = c .before .before .before .before .expand in
+      let q = start .args .nonterminal in
+      let h = start .pre .1 .1 in
+      let k : start .args .p .at < length (start .args .list .now) = omega (arith, if1 .left) in
+      let m = division-told h q k (expand .result) (c .before .before .x2 .given .1) (expand .ensures (start .pre .1 .0)) in
+      let f = arity-small h q k m in
+      (f .0, f .1, f .2, children-length h)
 
   read-tree-returns : read-tree-lts.Need-returns read-tree-calls (read-tree-at t) read-tree.Post
   read-tree-returns c =
@@ -164,101 +189,38 @@ module _ (t : ℕ) where
 
   read-tree-add-behind : read-tree-lts.Need-add-behind read-tree-calls (read-tree-at t) read-tree.Post
   read-tree-add-behind c =
-      let start = c .before .before .before .before .before .before .before .before in
-      let if1 = c .before .before .before .before .before .if1 in
-      let expand = c .before .before .before .expand in
-      let x = c .before .x in
-      let a = start .args in
-      let s = start .pre .1 .0 in
-      let h = start .pre .1 .1 in
-      let m = leaf-room h (a .nonterminal) (omega (arith, if1 .left)) (subst (λ x. Expands s (itemOf (a .nonterminal) (a .over))
-      (a .p .carried) (getD (a .list .now) (a .p .at) 0) x) (x .given .1) (expand .ensures s (item-at h))) in
-      let f = m .from in
+      let f = leaf-fits c .from in
       record { fits = omega arith }
 
   read-tree-behind-requires : read-tree-lts.Need-behind-requires read-tree-calls (read-tree-at t) read-tree.Post
-  read-tree-behind-requires c κs =
-      let start = c .before .before .before .before .before .before .before .before in
-      let if1 = c .before .before .before .before .before .if1 in
-      let expand = c .before .before .before .expand in
-      let x = c .before .x in
-      let a = start .args in
-      let s = start .pre .1 .0 in
-      let h = start .pre .1 .1 in
-      leaf-room h (a .nonterminal) (omega (arith, if1 .left)) (subst (λ x. Expands s (itemOf (a .nonterminal) (a .over)) (a .p .carried)
-      (getD (a .list .now) (a .p .at) 0) x) (x .given .1) (expand .ensures s (item-at h)))
+  read-tree-behind-requires c κs = leaf-fits c
 
   read-tree-enum-known-x-2 : read-tree-lts.Need-enum-known-x-2 read-tree-calls (read-tree-at t) read-tree.Post
   read-tree-enum-known-x-2 c = search needs
 
   read-tree-div-t29 : read-tree-lts.Need-div-t29 read-tree-calls (read-tree-at t) read-tree.Post
   read-tree-div-t29 c =
-      let start = c .before .before .before .before .before .before .before .before .before in
-      let if1 = c .before .before .before .before .before .before .if1 in
-      let expand = c .before .before .before .before .expand in
-      let x2 = c .before .before .x2 in
-      let a = start .args in
-      let s = start .pre .1 .0 in
-      let h = start .pre .1 .1 in
-      let m = (subst (λ x. Expands s (itemOf (a .nonterminal) (a .over)) (a .p .carried) (getD (a .list .now) (a .p .at) 0) x)
-      (x2 .given .1) (expand .ensures s (item-at h))) in
-      let f = arity-small h (a .nonterminal) (omega (arith, if1 .left)) m .0 in
+      let f = division-fits c .0 in
       search needs
 
   read-tree-cast-from : read-tree-lts.Need-cast-from read-tree-calls (read-tree-at t) read-tree.Post
   read-tree-cast-from c =
-      let start = c .before .before .before .before .before .before .before .before .before in
-      let if1 = c .before .before .before .before .before .before .if1 in
-      let expand = c .before .before .before .before .expand in
-      let x2 = c .before .before .x2 in
-      let a = start .args in
-      let s = start .pre .1 .0 in
-      let h = start .pre .1 .1 in
-      let m = (subst (λ x. Expands s (itemOf (a .nonterminal) (a .over)) (a .p .carried) (getD (a .list .now) (a .p .at) 0) x)
-      (x2 .given .1) (expand .ensures s (item-at h))) in
-      let f = arity-small h (a .nonterminal) (omega (arith, if1 .left)) m .2 in
+      let f = division-fits c .2 in
       search needs
 
   read-tree-mul-from : read-tree-lts.Need-mul-from read-tree-calls (read-tree-at t) read-tree.Post
   read-tree-mul-from c =
-      let start = c .before .before .before .before .before .before .before .before .before in
-      let if1 = c .before .before .before .before .before .before .if1 in
-      let expand = c .before .before .before .before .expand in
-      let x2 = c .before .before .x2 in
-      let a = start .args in
-      let s = start .pre .1 .0 in
-      let h = start .pre .1 .1 in
-      let m = (subst (λ x. Expands s (itemOf (a .nonterminal) (a .over)) (a .p .carried) (getD (a .list .now) (a .p .at) 0) x)
-      (x2 .given .1) (expand .ensures s (item-at h))) in
-      let f = arity-small h (a .nonterminal) (omega (arith, if1 .left)) m .2 in
+      let f = division-fits c .2 in
       search needs
 
   read-tree-cast-kids : read-tree-lts.Need-cast-kids read-tree-calls (read-tree-at t) read-tree.Post
   read-tree-cast-kids c =
-      let start = c .before .before .before .before .before .before .before .before .before in
-      let if1 = c .before .before .before .before .before .before .if1 in
-      let expand = c .before .before .before .before .expand in
-      let x2 = c .before .before .x2 in
-      let a = start .args in
-      let s = start .pre .1 .0 in
-      let h = start .pre .1 .1 in
-      let m = (subst (λ x. Expands s (itemOf (a .nonterminal) (a .over)) (a .p .carried) (getD (a .list .now) (a .p .at) 0) x)
-      (x2 .given .1) (expand .ensures s (item-at h))) in
-      let f = arity-small h (a .nonterminal) (omega (arith, if1 .left)) m .1 in
+      let f = division-fits c .1 in
       search needs
 
   read-tree-add-kids : read-tree-lts.Need-add-kids read-tree-calls (read-tree-at t) read-tree.Post
   read-tree-add-kids c =
-      let start = c .before .before .before .before .before .before .before .before .before in
-      let if1 = c .before .before .before .before .before .before .if1 in
-      let expand = c .before .before .before .before .expand in
-      let x2 = c .before .before .x2 in
-      let a = start .args in
-      let s = start .pre .1 .0 in
-      let h = start .pre .1 .1 in
-      let m = (subst (λ x. Expands s (itemOf (a .nonterminal) (a .over)) (a .p .carried) (getD (a .list .now) (a .p .at) 0) x)
-      (x2 .given .1) (expand .ensures s (item-at h))) in
-      let f = arity-small h (a .nonterminal) (omega (arith, if1 .left)) m in
+      let f = division-fits c in
       let g = f .1 in
       let i = f .2 in
       search needs
@@ -271,17 +233,8 @@ module _ (t : ℕ) where
 
   read-tree-part-kids-end : read-tree-lts.Need-part-kids-end read-tree-calls (read-tree-at t) read-tree.Post
   read-tree-part-kids-end c =
-      let start = c .before .before .before .before .before .before .before .before .before in
-      let if1 = c .before .before .before .before .before .before .if1 in
-      let expand = c .before .before .before .before .expand in
-      let x2 = c .before .before .x2 in
-      let a = start .args in
-      let s = start .pre .1 .0 in
-      let h = start .pre .1 .1 in
-      let m = (subst (λ x. Expands s (itemOf (a .nonterminal) (a .over)) (a .p .carried) (getD (a .list .now) (a .p .at) 0) x)
-      (x2 .given .1) (expand .ensures s (item-at h))) in
-      let f = arity-small h (a .nonterminal) (omega (arith, if1 .left)) m in
-      omega (arith, f .1, f .2, children-length h)
+      let f = division-fits c in
+      omega (arith, f .1, f .2, f .3)
 
   read-tree-behind-requires-2 : read-tree-lts.Need-behind-requires-2 read-tree-calls (read-tree-at t) read-tree.Post
   read-tree-behind-requires-2 c κs =
@@ -292,9 +245,8 @@ module _ (t : ℕ) where
       let a = start .args in
       let s = start .pre .1 .0 in
       let h = start .pre .1 .1 in
-      let m = (subst (λ x. Expands s (itemOf (a .nonterminal) (a .over)) (a .p .carried) (getD (a .list .now) (a .p .at) 0) x)
-      (x2 .given .1) (expand .ensures s (item-at h))) in
-      rule-room h (a .nonterminal) (omega (arith, if1 .left)) m
+      rule-room h (a .nonterminal) (omega (arith, if1 .left)) (division-told h (a .nonterminal) (omega (arith, if1 .left))
+      (expand .result) (x2 .given .1) (expand .ensures s))
 
   read-tree-read-row-requires : read-tree-lts.Need-read-row-requires read-tree-calls (read-tree-at t) read-tree.Post
   read-tree-read-row-requires c κs =
@@ -306,8 +258,7 @@ module _ (t : ℕ) where
       let a = start .args in
       let s = start .pre .1 .0 in
       let h = start .pre .1 .1 in
-      let m = (subst (λ x. Expands s (itemOf (a .nonterminal) (a .over)) (a .p .carried) (getD (a .list .now) (a .p .at) 0) x)
-      (x2 .given .1) (expand .ensures s (item-at h))) in (
+      let m = (division-told h (a .nonterminal) (omega (arith, if1 .left)) (expand .result) (x2 .given .1) (expand .ensures s)) in (
         omega (arith, start .pre .0, parts-fall h (a .nonterminal) (omega (arith, if1 .left)) m .0),
         (
           s,
@@ -322,9 +273,8 @@ module _ (t : ℕ) where
       let if1 = c .before .before .before .before .if1 in
       let expand = c .before .before .expand in
       let enum-told = c .enum-told in
-      λ s h. let a = start .args in
-      rule-refused h (a .nonterminal) (omega (arith, if1 .left)) (subst (λ x. Expands s (itemOf (a .nonterminal) (a .over))
-      (a .p .carried) (getD (a .list .now) (a .p .at) 0) x) (enum-told .given .1) (expand .ensures s (item-at h)))
+      let a = start .args in
+      λ s h. rule-refused h (a .nonterminal) (omega (arith, if1 .left)) (expand .result) (enum-told .given .1) (expand .ensures s)
 
   read-tree-returns-3 : read-tree-lts.Need-returns-3 read-tree-calls (read-tree-at t) read-tree.Post
   read-tree-returns-3 c =
@@ -333,10 +283,9 @@ module _ (t : ℕ) where
       let expand = c .before .before .before .before .expand in
       let x = c .before .before .x in
       let behind = c .behind in
-      λ s h. let a = start .args in
-      subst (λ n. ItemWalked s (a .list .now) (a .nonterminal) (a .over) (a .p) (Upto n)) (sym (behind .ensures)) (leaf-walked h
-      (a .nonterminal) (omega (arith, if1 .left)) (subst (λ x. Expands s (itemOf (a .nonterminal) (a .over)) (a .p .carried) (getD
-      (a .list .now) (a .p .at) 0) x) (x .given .1) (expand .ensures s (item-at h))))
+      let a = start .args in
+      λ s h. leaf-walked h (a .nonterminal) (omega (arith, if1 .left)) (leaf-told h (a .nonterminal) (omega (arith, if1 .left))
+      (expand .result) (x .given .1) (expand .ensures s)) _ (behind .ensures)
 
   read-tree-returns-4 : read-tree-lts.Need-returns-4 read-tree-calls (read-tree-at t) read-tree.Post
   read-tree-returns-4 c =
@@ -346,12 +295,11 @@ module _ (t : ℕ) where
       let x2 = c .before .before .before .before .before .x2 in
       let behind2 = c .before .behind2 in
       let read-row = c .read-row in
-      λ s h. let a = start .args in
-      let m = (subst (λ x. Expands s (itemOf (a .nonterminal) (a .over)) (a .p .carried) (getD (a .list .now) (a .p .at) 0) x)
-      (x2 .given .1) (expand .ensures s (item-at h))) in
-      parts-walked h (a .nonterminal) (omega (arith, if1 .left)) m _ _ (kids-are h (a .nonterminal) (omega (arith, if1 .left)) m)
-      (behind2 .ensures) (read-row .result) (read-row .ensures s (parts-entry h (a .nonterminal) (omega (arith, if1 .left)) m _ _
-      (kids-are h (a .nonterminal) (omega (arith, if1 .left)) m) (behind2 .ensures)))
+      let a = start .args in
+      λ s h. parts-walked h (a .nonterminal) (omega (arith, if1 .left)) (division-told h (a .nonterminal) (omega (arith, if1 .left))
+      (expand .result) (x2 .given .1) (expand .ensures s)) _ _ (kids-are h (a .nonterminal) (omega (arith, if1 .left)) (division-told h
+      (a .nonterminal) (omega (arith, if1 .left)) (expand .result) (x2 .given .1) (expand .ensures s))) (behind2 .ensures)
+      (read-row .result) (read-row .ensures s)
 
 pub +read-row+read-tree-spec : {M : Type 1} → statement M
 +read-row+read-tree-spec = close μ-read-row μ-read-tree (λ t. read-row-lts.spec (read-row-calls t)
