@@ -7,8 +7,9 @@ use native.Mathlib.Omega.{arith}
 use native.Mathlib.Decide.{ℕ-discrete}
 use lib.ListN.{length, drop, getD, drop-of-length-le}
 use borrow.Author.Tests.{eq-eqb, ne-eqb}
+use Rattle.slices.specs.Lookup.{drop-step}
 use Rattle.hextext.specs.Text.{isDigit, Place, first, odd, even, badFrom, badLine}
-use Rattle.hextext.specs.Laws.{drop-step, no-digit-low}
+use Rattle.hextext.specs.Laws.{no-digit-low}
 
 -- the place of the next byte: the line's first, or behind its pairs
 abbrev pub place : Bool → Place

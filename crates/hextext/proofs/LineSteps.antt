@@ -7,8 +7,9 @@ use native.Mathlib.Nat.{add-zero}
 use native.Mathlib.Omega.{arith}
 use lib.ListN.{length, drop, getD, set, length-append, drop-of-length-le}
 use Rattle.slices.specs.Over.{over, over-nil, over-more, over-full, length-over}
+use Rattle.slices.specs.Lookup.{drop-step}
 use Rattle.hextext.specs.Text.{pair, lineBytes, lineSize, NextLine}
-use Rattle.hextext.specs.Laws.{drop-step, bytes-closed, size-closed, bytes-pair, size-pair}
+use Rattle.hextext.specs.Laws.{bytes-closed, size-closed, bytes-pair, size-pair}
 
 -- of the line that starts at `at`, the bytes in front of place i have been read: there are `count`, and they stand over the slice line₀
 pub record Read (text : List ℕ) (at : ℕ) (line₀ line : List ℕ) (count i : ℕ) : Type 0 where

@@ -4,12 +4,11 @@ use Prim.Native.Nat.{ℕ, zero, suc, _+_, _*_, _-_, _/_, _%_, _<_, _≤_}
 use mathlib.Core.Path.{_≡_, refl, sym, ap, subst, _∙_}
 use mathlib.Core.Bool.{Bool, true, false, cond}
 use mathlib.Core.List.{List, [], _∷_, _++_}
-use native.Mathlib.Numerals.{add-one}
 use native.Mathlib.Decide.{ℕ-discrete, decLt}
 use native.Mathlib.Nat.{mod-lt, div-add-mod'}
 use native.Mathlib.Omega.{arith}
 use lib.ListN.{length, drop, getD, length-append, length-drop, drop-of-length-le}
-use lib.Seq.{drop-cons, drop-drop}
+use lib.Seq.{drop-drop}
 use lib.Dec.{eqb, leb}
 use borrow.Author.Tests.{eq-eqb, ne-eqb, lt-ltb, le-ltb, le-leb, lt-leb}
 use Rattle.slices.specs.Every.{Every}
@@ -144,10 +143,6 @@ byte-small (a ∷ b ∷ t) (suc i) =
 
 -- the line that starts at a place of a text
 module _ (t : List ℕ) (i : ℕ) where
-  -- the byte at the place, and the text behind it
-  pub drop-step : i < length t → drop i t ≡ getD t i 0 ∷ drop (i + 1) t
-  drop-step h = rw (add-one, drop-cons t i 0)
-
   some-left : i < length t → 0 < length (drop i t)
   some-left h = simp length-drop (omega arith)
 

@@ -4,12 +4,10 @@ use mathlib.Core.Path.{_≡_, refl, sym, ap, subst, _∙_}
 use mathlib.Core.List.{List, [], _∷_, map}
 use mathlib.Core.Option.{none, some, Option·elim}
 use native.Mathlib.Nat.{mul-le-mul-right, div-lt-self}
-use native.Mathlib.Numerals.{add-one}
 use native.Mathlib.Omega.{arith}
 use lib.ListN.{length, take, drop, getD, drop-of-length-le}
-use lib.Seq.{drop-cons}
 use Rattle.slices.specs.Every.{every-some}
-use Rattle.slices.specs.Lookup.{some-below}
+use Rattle.slices.specs.Lookup.{some-below, drop-step}
 use Rattle.slices.specs.Pad.{length-pad}
 use Rattle.sheet.specs.Sheet.{Rule, division, leaf, Sheet, barUnits}
 use Rattle.sheet.specs.Good.{GoodDivision, GoodRule, GoodRules}
@@ -64,7 +62,7 @@ module _ {s : Sheet} {cells children units list : List ℕ} {over : Interval} {p
 
   -- the list from a rule on
   front : p .at < length list → drop (p .at) list ≡ getD list (p .at) 0 ∷ drop (p .at + 1) list
-  front k = drop-cons list (p .at) 0 k ∙ ap (λ n. getD list (p .at) 0 ∷ drop n list) (sym (add-one (p .at)))
+  front k = drop-step list (p .at) k
 
   -- the rule there, and the list behind it
   abbrev r : ℕ

@@ -5,8 +5,7 @@ use mathlib.Core.List.{List}
 use mathlib.Core.Logic.{inl, inr}
 use native.Mathlib.Omega.{arith}
 use lib.ListN.{length, drop, getD, drop-of-length-le}
-use Rattle.slices.specs.Lookup.{past-end}
-use Rattle.hextext.specs.Laws.{drop-step}
+use Rattle.slices.specs.Lookup.{past-end, drop-step}
 use Rattle.sheet.specs.declared.table.Rule.the-variants.{Division, Leaf}
 use Rattle.sheet.specs.Sheet.{division, leaf, Sheet}
 use Rattle.trees.specs.ValidTrees.{ruleAt}

@@ -9,15 +9,15 @@ use native.Mathlib.Omega.{arith}
 use lib.ListN.{length, drop, getD}
 use lib.Seq.{drop-length}
 use Rattle.slices.specs.Over.{overFrom}
-use Rattle.hextext.specs.Laws.{drop-step}
+use Rattle.slices.specs.Lookup.{drop-step}
 use Rattle.sheet.specs.Sheet.{division, Sheet}
 use Rattle.derivations.specs.Derivation.{Item, derive}
-use Rattle.trees.specs.ValidTrees.{ruleAt, row, placedFrom}
+use Rattle.trees.specs.ValidTrees.{row, placedFrom}
 use Rattle.trees.specs.Instance.{instanceOf}
 use Rattle.trees.specs.Expansions.{may-divide, parts-whole}
 use Rattle.trees.specs.Onsets.{divided-long}
 use Rattle.trees.specs.Room.{good-division}
-use Rattle.trees.specs.Leaves.{leavesFrom}
+use Rattle.trees.specs.Leaves.{leavesFrom, leaves-divided}
 use Rattle.trees.specs.LeafBounds.{InOneBar, part-in-bar}
 use Rattle.expansions.specs.declared.Interval.{Interval}
 use Rattle.expansions.specs.Items.{interval, itemOf}
@@ -107,11 +107,6 @@ module _ {s : Sheet} {rest : List Item} {ks cells us ps list : List ℕ} {left l
       (rw (drop-length ks) at (v .ahead), rw (drop-length ks) at (v .went-on))
 
 -- ---- the parts of a division
-
-leaves-divided : (s : Sheet) (g : Item) (rest : List Item) (r h w : ℕ) (ks xs : List ℕ) → ruleAt s r ≡ some (division h w ks)
-    → leavesFrom s (r ∷ xs) (g ∷ rest) ≡ leavesFrom s xs (row (g .left) (g .len / length ks) ks ++ rest)
-unfolding leavesFrom
-leaves-divided s g rest r h w ks xs e = rw (e, leavesFrom) refl
 
 module _ {s : Sheet} {q : ℕ} {rest : List Item} {cells us ps list : List ℕ} {over : Interval} {p : Place} {score ks : List ℕ} {k : ℕ}
     (h : TreeEntry s q rest cells us ps list over p score) (size : length ks ≡ k)

@@ -9,7 +9,6 @@ use native.Mathlib.Decide.{decLt}
 use native.Mathlib.Omega.{arith}
 use lib.ListN.{length, drop, getD, length-append, drop-of-length-le}
 use Rattle.slices.specs.Over.{overFrom, over-from-append, length-over-from}
-use Rattle.hextext.specs.Laws.{drop-step}
 use Rattle.sheet.specs.declared.table.Rule as cell
 use Rattle.sheet.specs.declared.table.Rule.the-variants.{Division, Leaf}
 use Rattle.sheet.specs.Sheet.{Rule, division, leaf, Sheet}
@@ -21,7 +20,7 @@ use Rattle.trees.specs.Leaves.{leavesFrom, leaves-leaf}
 use Rattle.expansions.specs.declared.Interval.{Interval}
 use Rattle.expansions.specs.Tables.{unpackedOf, cellOf}
 use Rattle.expansions.specs.RuleCells.{leaf≢division}
-use Rattle.slices.specs.Lookup.{some-below}
+use Rattle.slices.specs.Lookup.{some-below, drop-step}
 use Rattle.expansions.specs.Items.{itemOf}
 use Rattle.score.specs.declared.tree.Place.{Place}
 use Rattle.score.specs.Score.{leafLines}

@@ -61,10 +61,14 @@ module _ (s : Sheet) where
   unfolding leavesFrom
   leaves-leaf g r h w n xs e hs = rw (e, leavesFrom) refl
 
+  pub leaves-divided : (g : Item) (gs : List Item) (r h w : ℕ) (ks xs : List ℕ) → ruleAt s r ≡ some (division h w ks)
+      → leavesFrom s (r ∷ xs) (g ∷ gs) ≡ leavesFrom s xs (row (g .left) (g .len / length ks) ks ++ gs)
+  unfolding leavesFrom
+  leaves-divided g gs r h w ks xs e = rw (e, leavesFrom) refl
+
   pub leaves-division : (g : Item) (r h w : ℕ) (ks : List ℕ) (xs ys : List ℕ) (ls : List Leaf) → ruleAt s r ≡ some (division h w ks)
       → LeavesRead (row (g .left) (g .len / length ks) ks) xs ys ls → LeavesRead (g ∷ []) (r ∷ xs) ys ls
-  unfolding leavesFrom
-  leaves-division g r h w ks xs ys ls e k hs = rw (e, leavesFrom) (k hs)
+  leaves-division g r h w ks xs ys ls e k hs = leaves-divided g hs r h w ks xs e ∙ k hs
 
   -- ---- the whole list
 
