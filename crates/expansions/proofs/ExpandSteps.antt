@@ -57,11 +57,12 @@ module _ (s : Sheet) (q : ℕ) (over : Interval) (c r : ℕ) where
       go (yes a) (yes b) = absurd (u a b)
 
   leaf-made : (w n e l d : ℕ) → ruleAt s r ≡ some (leaf q w n) → LeafFits s (over .left .0) (over .len .0) c n e l d
-      → LeafMade s (itemOf q over) c r w n e l d
+      → LeafMade s (itemOf q over) c r w e l d
   leaf-made w n e l d f m =
       let few : lateCount s (over .left .0) (over .len .0) ≤ 3 = omega (arith, m .few, m .counts .late) in
       let kind = m .kind ∙ ap (λ x. token (c + x)) (m .counts .early) in
       record {
+        n = n;
         rule = f;
         expands =
             leaf-expands s (itemOf q over) c r (atLeaf s (itemOf q over))
@@ -72,7 +73,7 @@ module _ (s : Sheet) (q : ℕ) (over : Interval) (c r : ℕ) where
   pub leaf-as : (h w n : ℕ) (x : Expansion) → ruleAt s r ≡ some (leaf h w n) → h ≡ q → AsLeaf s over c w n x
       → Expands s (itemOf q over) c r x
   leaf-as h w n Refused e d a = leaf-unfit w n (rw d at e) a
-  leaf-as h w n (Leaf v m i l f) e d (av, am, fit) = rw (av, am) (leaf-made w n i l f (rw d at e) fit)
+  leaf-as h w n (Leaf v i l f) e d (av, fit) = rw av (leaf-made w n i l f (rw d at e) fit)
   leaf-as h w n (Division v k) e d a = absurd a
 
   -- a division of the item's head that is not allowed
@@ -102,7 +103,7 @@ module _ (s : Sheet) (q : ℕ) (over : Interval) (c r : ℕ) where
       → AsDivision s over w k x → Expands s (itemOf q over) c r x
   division-by w k ks Refused e f z a =
       division-unfit w ks e (ap (λ j. mayDivide s j (over .left .0) (over .len .0)) (sym f) ∙ a z)
-  division-by w k ks (Leaf v m i l d) e f z a = absurd a
+  division-by w k ks (Leaf v i l d) e f z a = absurd a
   division-by w k ks (Division v j) e f z (av, aj, am, az) =
       rw (av, aj) (division-made w k ks e f (ap (λ j. mayDivide s j (over .left .0) (over .len .0)) (sym f) ∙ am))
 
@@ -110,7 +111,7 @@ module _ (s : Sheet) (q : ℕ) (over : Interval) (c r : ℕ) where
   none-by : (w : ℕ) (x : Expansion) → ruleAt s r ≡ none → AsDivision s over w 0 x → Expands s (itemOf q over) c r x
   unfolding instanceOf Option·elim
   none-by w Refused e a = rw e
-  none-by w (Leaf v m i l d) e a = absurd a
+  none-by w (Leaf v i l d) e a = absurd a
   none-by w (Division v j) e (av, aj, am, az) = absurd (az aj)
 
   pub division-as : GoodRules (s .grammar) → (h w k : ℕ) (x : Expansion) → cellOf (ruleAt s r) ≡ cell.Division h w k → h ≡ q

@@ -67,17 +67,18 @@ LeafUnfit s over c n =
 -- what `leaf_at` gives
 abbrev pub AsLeaf : Sheet → Interval → ℕ → ℕ → ℕ → Expansion → Type 0
 AsLeaf s over c w n Refused = LeafUnfit s over c n
-AsLeaf s over c w n (Leaf v m e l d) = (v ≡ w) × (m ≡ n) × LeafFits s (over .left .0) (over .len .0) c n e l d
+AsLeaf s over c w n (Leaf v e l d) = (v ≡ w) × LeafFits s (over .left .0) (over .len .0) c n e l d
 AsLeaf s over c w n (Division v k) = ⊥
 
 -- what `division_at` gives, of a division of weight w into k parts
 abbrev pub AsDivision : Sheet → Interval → ℕ → ℕ → Expansion → Type 0
 AsDivision s over w k Refused = (k ≡ 0 → ⊥) → mayDivide s k (over .left .0) (over .len .0) ≡ false
-AsDivision s over w k (Leaf v m e l d) = ⊥
+AsDivision s over w k (Leaf v e l d) = ⊥
 AsDivision s over w k (Division v a) = (v ≡ w) × (a ≡ k) × (mayDivide s k (over .left .0) (over .len .0) ≡ true) × (a ≡ 0 → ⊥)
 
 -- rule r is a leaf that fits the item
-pub record LeafMade (s : Sheet) (g : Item) (c r : ℕ) (w n e l d : ℕ) : Type 0 where
+pub record LeafMade (s : Sheet) (g : Item) (c r : ℕ) (w e l d : ℕ) : Type 0 where
+  pub n : ℕ
   pub rule : ruleAt s r ≡ some (leaf (g .nonterminal) w n)
   pub expands : instanceOf s .expand g c r ≡ some (atLeaf s g)
   pub fits : LeafFits s (g .left) (g .len) c n e l d
@@ -93,5 +94,5 @@ pub record DivisionMade (s : Sheet) (g : Item) (c r : ℕ) (w k : ℕ) : Type 0 
 -- what `expand` gives: the instance's expansion
 abbrev pub Expands : Sheet → Item → ℕ → ℕ → Expansion → Type 0
 Expands s g c r Refused = instanceOf s .expand g c r ≡ none
-Expands s g c r (Leaf w n e l d) = LeafMade s g c r w n e l d
+Expands s g c r (Leaf w e l d) = LeafMade s g c r w e l d
 Expands s g c r (Division w k) = DivisionMade s g c r w k

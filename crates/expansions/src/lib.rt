@@ -32,7 +32,6 @@ pub enum Expansion {
     Refused,
     Leaf {
         weight: u64,
-        n: u8,
         early: usize,
         late: usize,
         distance: u64,
@@ -170,7 +169,6 @@ fn leaf_at(
     }
     Expansion::Leaf {
         weight: weight as u64,
-        n,
         early,
         late,
         distance: placed.distance,

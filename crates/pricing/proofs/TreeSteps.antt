@@ -82,7 +82,7 @@ module _ {s : Sheet} {cells children units list : List ℕ} {over : Interval} {p
     told : (x y : Expansion) → x ≡ y → Told x → Expands s g (p .carried) r y
     told x y e f = subst (Expands s g (p .carried) r) e (f item-at)
 
-    pub leaf-told : {w n e l d : ℕ} (x : Expansion) → x ≡ Leaf w n e l d → Told x → LeafMade s g (p .carried) r w n e l d
+    pub leaf-told : {w e l d : ℕ} (x : Expansion) → x ≡ Leaf w e l d → Told x → LeafMade s g (p .carried) r w e l d
     leaf-told x e f = told x _ e f
 
     pub division-told : {w a : ℕ} (x : Expansion) → x ≡ Division w a → Told x → DivisionMade s g (p .carried) r w a
@@ -97,7 +97,7 @@ module _ {s : Sheet} {cells children units list : List ℕ} {over : Interval} {p
 
     -- ---- a leaf
 
-    module _ {w n e l d : ℕ} (m : LeafMade s g (p .carried) r w n e l d) where
+    module _ {w e l d : ℕ} (m : LeafMade s g (p .carried) r w e l d) where
       inside : e + l ≡ onsetsIn s (over .left .0) (over .len .0)
       inside = omega (arith, m .fits .counts .early, m .fits .counts .late, early-late s (over .left .0) (over .len .0))
 
@@ -110,7 +110,7 @@ module _ {s : Sheet} {cells children units list : List ℕ} {over : Interval} {p
           rw inside (omega (arith, most, m .fits .counts .distance, own-distance-most s (over .left .0) (over .len .0)))
 
       light : w ≤ 65535
-      light = good-rule s (h .lent .rules .good) r (leaf q w n) (m .rule) .weight
+      light = good-rule s (h .lent .rules .good) r (leaf q w (m .n)) (m .rule) .weight
 
       pub leaf-room : Room p (e + l) w d
       leaf-room =
@@ -132,7 +132,7 @@ module _ {s : Sheet} {cells children units list : List ℕ} {over : Interval} {p
               (atLeaf s g) (unspent (atLeaf s g .carry)) (m .expands)
               (reads-nil (instanceOf s) (atLeaf s g .carry) rest) hs);
           carried = m .fits .counts .late;
-          weight = omega (arith, weight-at s r (leaf q w n) w (m .rule) refl);
+          weight = omega (arith, weight-at s r (leaf q w (m .n)) w (m .rule) refl);
           distance = omega (arith, m .fits .counts .distance);
           sized =
               record {

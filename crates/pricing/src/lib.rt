@@ -82,7 +82,6 @@ fn read_tree<'a>(
         Expansion::Refused => Walk::Stuck,
         Expansion::Leaf {
             weight,
-            n: _,
             early,
             late,
             distance,

@@ -15,7 +15,7 @@ use Rattle.sheet.specs.Held.{playingTable}
 use Rattle.trees.specs.Leaves.{entriesOf}
 use Rattle.expansions.specs.Tables.{PackedRules, unitCells}
 use Rattle.score.specs.Score.{headLine, leafLines, scoreText}
-use Rattle.score.specs.Steps.{pitchCells, BarsEntry, BarsWritten, textOf, TextEntry, TextWritten}
+use Rattle.score.specs.Steps.{pitchCells, BarsEntry, BarsWritten, treeText, TextEntry, TextWritten}
 
 module _ {s : Sheet} {g : GrammarTable} {pl : PlayingTable} {list : List ℕ} {R D total : ℕ} {score : List ℕ}
     (h : TextEntry s g pl list R D total score) where
@@ -25,7 +25,7 @@ module _ {s : Sheet} {g : GrammarTable} {pl : PlayingTable} {list : List ℕ} {R
   abbrev leavesText : List ℕ
   leavesText = leafLines (entriesOf s list)
 
-  whole : textOf s list R D total ≡ headText ++ leavesText
+  whole : treeText s list R D total ≡ headText ++ leavesText
   unfolding scoreText
   whole = refl
 

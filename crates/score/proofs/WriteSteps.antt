@@ -28,7 +28,7 @@ use Rattle.score.specs.ScoreLaws.{textSize, score-length}
 use Rattle.score.specs.LeafRules.{leafRules, leaf-rules-most, leaf-rules-entries}
 use Rattle.score.specs.Writing.{Outcome, refusal, written, textWithin, writePriced, writeSheet, writeRead, writeText, writtenOf}
 use Rattle.score.specs.Writing.{scoreAfter}
-use Rattle.score.specs.Steps.{textOf, TextEntry, TextWritten}
+use Rattle.score.specs.Steps.{treeText, TextEntry, TextWritten}
 
 -- what an entry promises: its result and the score slice are those of the outcome
 abbrev pub Promised : Outcome → Written → (score score′ : List ℕ) → Type 0
@@ -99,7 +99,7 @@ module _ {s : Sheet} {g : GrammarTable} {p : PlayingTable} {list : List ℕ} {r 
       (omega (arith, leaves-are, leaf-rules-most s list, node-count s (h .duration) (h .good) list (t .valid), o .sixty-four, o .most), n)
 
   abbrev text : List ℕ
-  text = textOf s list (r .weight) (r .distance) (r .total)
+  text = treeText s list (r .weight) (r .distance) (r .total)
 
   -- the size of the text
   pub size-is : textSize leaves (p .count) ≡ length text

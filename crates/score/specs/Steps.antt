@@ -134,16 +134,16 @@ pub record BarsWritten (s : Sheet) (list : List ℕ) (to r : ℕ) (score score�
   pub end : r ≡ to + length (leafLines (entriesOf s list))
 
 -- the score lines of a list with this R, D and total
-abbrev pub textOf : Sheet → (list : List ℕ) → (R D total : ℕ) → List ℕ
-textOf s list R D total = scoreText (s .playing .bars) R D total (entriesOf s list)
+abbrev pub treeText : Sheet → (list : List ℕ) → (R D total : ℕ) → List ℕ
+treeText s list R D total = scoreText (s .playing .bars) R D total (entriesOf s list)
 
 -- what `write_text` is given: the tables hold the sheet, the list is a valid tree, and its text has room
 pub record TextEntry (s : Sheet) (g : GrammarTable) (p : PlayingTable) (list : List ℕ) (R D total : ℕ) (score : List ℕ) : Type 0 where
   pub held : SheetHeld s g p
   pub valid : ValidTree s list
-  pub room : length (textOf s list R D total) ≤ length score
+  pub room : length (treeText s list R D total) ≤ length score
 
 -- and what it does
 pub record TextWritten (s : Sheet) (list : List ℕ) (R D total r : ℕ) (score score′ : List ℕ) : Type 0 where
-  pub text : score′ ≡ over (textOf s list R D total) score
-  pub end : r ≡ length (textOf s list R D total)
+  pub text : score′ ≡ over (treeText s list R D total) score
+  pub end : r ≡ length (treeText s list R D total)

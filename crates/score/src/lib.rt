@@ -53,7 +53,7 @@ fn leaf_one(rules: &[u64; 64], r: u8) -> usize
 }
 
 // How many numbers of a list are leaf rules.
-pub fn count_leaves(rules: &[u64; 64], list: &[u8]) -> usize
+fn count_leaves(rules: &[u64; 64], list: &[u8]) -> usize
     ensures { λ x. ⌜ ((s : Sheet) → RulesHeld s (now (rules .entry)) → x ≡ leafRules s (now (list .entry))) ⌝ }
 {
     let mut leaves: usize = 0;
@@ -67,7 +67,7 @@ pub fn count_leaves(rules: &[u64; 64], list: &[u8]) -> usize
 }
 
 // Writes the score lines of a valid tree with its R, D and total; gives the number of bytes.
-pub fn write_text(
+fn write_text(
     grammar: GrammarTable,
     playing: PlayingTable,
     list: &[u8],

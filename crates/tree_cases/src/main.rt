@@ -1,6 +1,6 @@
 // Prices and writes lists against sheets that are read from standard input. A case is a line that names it, a line of pairs with the bytes
-// of the list, a line of pairs that says how it is run, and the sheet. The second line has one byte that fills the score slice beforehand,
-// two bytes for the slice's length and four for the list's: where that is more than the list has, zeros follow.
+// of the list, a line of pairs that says how it is run, and the sheet. How it is run: one byte that fills the score slice beforehand, two
+// bytes for the slice's length and four for the list's; where that is more than the list has, zeros follow.
 ghost use mathlib.Core.Path.{_≡_};
 ghost use Prim.Native.Nat.{_+_, _≤_, _<_, min};
 ghost use lib.ListN.{length};

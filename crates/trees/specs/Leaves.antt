@@ -1,6 +1,5 @@
 -- The leaves of a valid tree, computed from its list: a valid tree is given with a forest that it is the writing of, and a writer of score
--- lines has the list alone. So the entries of a valid tree are those of the leaves computed here. The laws of `LeavesRead` follow a writer
--- that recurs into the parts, as those of `derivations`' `Reads` follow pricing.
+-- lines has the list alone. So the entries of a valid tree are those of the leaves computed here.
 use Prim.Native.Nat.{ℕ, _/_}
 use mathlib.Core.Path.{_≡_, refl, sym, ap, _∙_}
 use mathlib.Core.List.{List, [], _∷_, _++_, append-assoc, append-nil}
@@ -46,10 +45,10 @@ module _ (s : Sheet) where
 
   -- ---- items in a row
 
-  pub leaves-nil : (xs : List ℕ) → LeavesRead [] xs xs []
+  leaves-nil : (xs : List ℕ) → LeavesRead [] xs xs []
   leaves-nil xs hs = refl
 
-  pub leaves-append : (g₁ g₂ : List Item) (xs ys zs : List ℕ) (ls ms : List Leaf) → LeavesRead g₁ xs ys ls → LeavesRead g₂ ys zs ms
+  leaves-append : (g₁ g₂ : List Item) (xs ys zs : List ℕ) (ls ms : List Leaf) → LeavesRead g₁ xs ys ls → LeavesRead g₂ ys zs ms
       → LeavesRead (g₁ ++ g₂) xs zs (ls ++ ms)
   leaves-append g₁ g₂ xs ys zs ls ms h k hs =
       rw (append-assoc g₁ g₂ hs, append-assoc ls ms (leavesFrom s zs hs)) (h (g₂ ++ hs) ∙ ap (ls ++_) (k hs))
@@ -66,13 +65,13 @@ module _ (s : Sheet) where
   unfolding leavesFrom
   leaves-divided g gs r h w ks xs e = rw (e, leavesFrom) refl
 
-  pub leaves-division : (g : Item) (r h w : ℕ) (ks : List ℕ) (xs ys : List ℕ) (ls : List Leaf) → ruleAt s r ≡ some (division h w ks)
+  leaves-division : (g : Item) (r h w : ℕ) (ks : List ℕ) (xs ys : List ℕ) (ls : List Leaf) → ruleAt s r ≡ some (division h w ks)
       → LeavesRead (row (g .left) (g .len / length ks) ks) xs ys ls → LeavesRead (g ∷ []) (r ∷ xs) ys ls
   leaves-division g r h w ks xs ys ls e k hs = leaves-divided g hs r h w ks xs e ∙ k hs
 
   -- ---- the whole list
 
-  pub leaves-all : (gs : List Item) (xs : List ℕ) (ls : List Leaf) → LeavesRead gs xs [] ls → leavesFrom s xs gs ≡ ls
+  leaves-all : (gs : List Item) (xs : List ℕ) (ls : List Leaf) → LeavesRead gs xs [] ls → leavesFrom s xs gs ≡ ls
   unfolding leavesFrom
   leaves-all gs xs ls h = rw (append-nil gs, append-nil ls) at (h [])
 

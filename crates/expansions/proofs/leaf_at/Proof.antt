@@ -53,7 +53,7 @@ returns-3 c =
     let token-of = c .before .token-of in
     let if2 = c .if2 in
     λ s h. let p = place .ensures s (h .here) in
-    (refl, refl, record { counts = p; kind = if2 .left ∙ token-of .ensures; few = omega (arith, if1 .left) })
+    (refl, record { counts = p; kind = if2 .left ∙ token-of .ensures; few = omega (arith, if1 .left) })
 
 pub leaf-at-spec : {M : Type 1} → statement M
 leaf-at-spec =

@@ -141,7 +141,7 @@ module _ (t : ℕ) where
   leaf-fits : (c : read-tree-lts.After-known-told read-tree-calls (read-tree-at t) read-tree.Post)
       → let a = c .before .before .before .before .before .before .before .before .args in
       let x = c .before .x .given .0 in
-      Room (a .p) (x .1 .1 .0 + x .1 .1 .1 .0) (x .0) (x .1 .1 .1 .1 .0)
+      Room (a .p) (x .1 .0 + x .1 .1 .0) (x .0) (x .1 .1 .1 .0)
   leaf-fits c =
       let start = c .before .before .before .before .before .before .before .before in
       let if1 = c .before .before .before .before .before .if1 in
