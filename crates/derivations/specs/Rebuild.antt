@@ -7,10 +7,10 @@ use mathlib.Core.Option.{Option, none, some}
 use native.Mathlib.Omega.{arith}
 use Rattle.slices.specs.Every.{Every, every-all}
 use Rattle.derivations.specs.Derivation.{Item, Expansion, Price, Instance, Lawful, unspent, priceOf, _⊞_}
-use Rattle.derivations.specs.Minima.{lowest, FirstPlace, lowest-first}
-use Rattle.derivations.specs.Least.{Least, carry-fits}
+use Rattle.derivations.specs.Minima.{lowest, lowest-cap, only, FirstPlace, lowest-first}
+use Rattle.derivations.specs.Least.{Least, least-same, least-nil, least-append, carry-fits}
 use Rattle.derivations.specs.First.{First, first-nil, first-total, first-append, first-rule}
-use Rattle.derivations.specs.Table.{Cells, via, ruleTotal, LeastParts, rule-opening, rules-least, backward, Exact, backward-least}
+use Rattle.derivations.specs.Table.{Cells, via, ruleTotal, LeastParts, rule-opening, rules-least, backward, forward, Exact, backward-least, parts-least}
 use Rattle.derivations.specs.Cells.{Falls, EveryPart, depth-rec, cell, cell-exact}
 
 -- there is a first least list
@@ -26,6 +26,58 @@ module _ {P : Instance} {C : ℕ} (L : Lawful P C) (a cap : ℕ) (cell : Cells) 
   row-least : (gs : List Item) (v : ℕ → ℕ) (c : ℕ) → c < C → Least P a cap gs v c (backward C cap cell gs v c)
   row-least gs v c = backward-least L a cap cell gs v c (every-all (Exact P a cap C cell) exact gs)
 
+  -- parts by the backward fold, with the vector v behind them; and what rule r then totals at an item
+  abbrev rest : (ℕ → ℕ) → List Item → ℕ → ℕ
+  rest v parts = backward C cap cell parts v
+
+  abbrev pub restTotal : Item → (ℕ → ℕ) → ℕ → ℕ → ℕ
+  restTotal g v c = ruleTotal P a cap (rest v) g c
+
+  rest-least : (g : Item) (v : ℕ → ℕ) (c : ℕ) → c < C → (r : ℕ) → LeastParts P a cap (rest v) g v c r
+  rest-least g v c hc r m e = row-least (m .parts) v (m .carry) (L .fits g c r m hc e)
+
+  -- the least over the rules is the backward fold over the item
+  pub rules-backward : (g : Item) (v : ℕ → ℕ) (c : ℕ) → c < C → lowest cap (restTotal g v c) (P .count) ≡ backward C cap cell (g ∷ []) v c
+  unfolding backward
+  rules-backward g v c hc =
+      least-same P a cap (g ∷ []) v c _ _ (rules-least L a cap (rest v) g v c (rest-least g v c hc)) (row-least (g ∷ []) v c hc)
+      (lowest-cap cap _ (P .count)) (lowest-cap cap _ C)
+
+  -- the forward fold over some items, and then the vector v, is the backward fold
+  pub forward-backward : (g : Item) (gs : List Item) (v : ℕ → ℕ) (c : ℕ) → c < C
+      → lowest cap (λ m. forward C cap cell (g ∷ gs) (only cap c) m + v m) C ≡ backward C cap cell (g ∷ gs) v c
+  unfolding backward
+  forward-backward g gs v c hc =
+      let exacts = every-all (Exact P a cap C cell) exact (g ∷ gs) in
+      let l = least-append L a cap (g ∷ gs) [] v c (forward C cap cell (g ∷ gs) (only cap c)) v hc
+      (λ m hm. parts-least L a cap cell (g ∷ gs) c m hc hm exacts) (λ m hm. least-nil P a cap v m) in
+      least-same P a cap (g ∷ gs) v c _ _ (rw append-nil at l) (row-least (g ∷ gs) v c hc) (lowest-cap cap _ C) (lowest-cap cap _ C)
+
+  -- behind a first list the vector is below the cap where the whole is
+  pub behind-below : (g : Item) (gs : List Item) (v : ℕ → ℕ) (c : ℕ) (b : List ℕ) (p : Price) → c < C → backward C cap cell (g ∷ gs) v c < cap
+      → First P a (g ∷ []) (backward C cap cell gs v) c b p → backward C cap cell gs v (p .carry) < cap
+  unfolding backward
+  behind-below g gs v c b p hc h f =
+      let u : ℕ → ℕ = backward C cap cell gs v in
+      let s : ℕ = backward C cap cell (g ∷ gs) v c in
+      omega (arith, first-total P a cap (g ∷ []) u c s b p (row-least (g ∷ []) u c hc) h f)
+
+  -- an item, and then the items behind it: the first for the item, with the backward fold of those behind it, and then the first for them
+  pub first-next : (g : Item) (gs : List Item) (v : ℕ → ℕ) (c : ℕ) (b₁ b₂ : List ℕ) (p₁ p₂ : Price) → c < C
+      → backward C cap cell (g ∷ gs) v c < cap → First P a (g ∷ []) (backward C cap cell gs v) c b₁ p₁ → First P a gs v (p₁ .carry) b₂ p₂
+      → First P a (g ∷ gs) v c (b₁ ++ b₂) (p₁ ⊞ p₂)
+  first-next g gs v c b₁ b₂ p₁ p₂ hc h f₁ f₂ =
+      first-append L a cap (g ∷ []) gs v (backward C cap cell gs v) c b₁ b₂ p₁ p₂ hc (row-least gs v) (behind-below g gs v c b₁ p₁ hc h f₁) f₁
+      f₂
+
+  -- an item, by the first rule that comes to least, and then the first for its parts
+  pub first-chosen : (g : Item) (v : ℕ → ℕ) (c r : ℕ) → c < C → FirstPlace (restTotal g v c) (P .count) r → restTotal g v c r < cap
+      → (m : Expansion) (bs : List ℕ) (p : Price) → P .expand g c r ≡ some m → First P a (m .parts) v (m .carry) bs p
+      → First P a (g ∷ []) v c (r ∷ bs) (priceOf (P .weight r) m ⊞ p)
+  first-chosen g v c r hc place ht m bs p e f =
+      first-rule L a cap g [] v c (restTotal g v c) (λ i _. rule-opening P a cap (rest v) g v c i (rest-least g v c hc i)) r place ht m bs p e
+      (rw append-nil f)
+
   -- items in a row, each with what follows it in the vector behind it
   pub rebuilt-row : (gs : List Item) → Every (RebuiltItem P a cap C) gs → (v : ℕ → ℕ) (c : ℕ) → c < C → backward C cap cell gs v c < cap
       → Rebuilt P a gs v c
@@ -34,43 +86,30 @@ module _ {P : Instance} {C : ℕ} (L : Lawful P C) (a cap : ℕ) (cell : Cells) 
   rebuilt-row (g ∷ gs) (item, items) v c hc h =
       let u : ℕ → ℕ = backward C cap cell gs v in
       let s : ℕ = backward C cap cell (g ∷ gs) v c in
-      let l : Least P a cap (g ∷ []) u c s = row-least (g ∷ []) u c hc in
-      let (b₁, p₁, f₁) = item u c s hc l h in
-      let t₁ = first-total P a cap (g ∷ []) u c s b₁ p₁ l h f₁ in
+      let (b₁, p₁, f₁) = item u c s hc (row-least (g ∷ []) u c hc) h in
       let h₁ = carry-fits L b₁ (g ∷ []) c p₁ (f₁ .reads) hc in
-      let (b₂, p₂, f₂) = rebuilt-row gs items v (p₁ .carry) h₁ (omega (arith, t₁)) in
-      (b₁ ++ b₂, p₁ ⊞ p₂, first-append L a cap (g ∷ []) gs v u c b₁ b₂ p₁ p₂ hc (row-least gs v) (omega (arith, t₁)) f₁ f₂)
+      let (b₂, p₂, f₂) = rebuilt-row gs items v (p₁ .carry) h₁ (behind-below g gs v c b₁ p₁ hc h f₁) in
+      (b₁ ++ b₂, p₁ ⊞ p₂, first-next g gs v c b₁ b₂ p₁ p₂ hc h f₁ f₂)
 
   -- an item: the first rule that comes to least, and then its parts
   pub rebuilt-one : (g : Item) → EveryPart P (RebuiltItem P a cap C) g → RebuiltItem P a cap C g
   unfolding via
   rebuilt-one g items v c u hc l h =
-      let (r, place, e) = lowest-first cap f (P .count) low in
+      let (r, place, e) = lowest-first cap (restTotal g v c) (P .count) low in
       by r place (omega (arith, low)) (P .expand g c r) refl
     where
-      rest : List Item → ℕ → ℕ
-      rest parts = backward C cap cell parts v
-
-      f : ℕ → ℕ
-      f = ruleTotal P a cap rest g c
-
-      least : (r : ℕ) → LeastParts P a cap rest g v c r
-      least r m e = row-least (m .parts) v (m .carry) (L .fits g c r m hc e)
-
-      low : lowest cap f (P .count) < cap
+      low : lowest cap (restTotal g v c) (P .count) < cap
       low =
           let (bs, p, hd, e) = l .attained h in
-          omega (arith, rules-least L a cap rest g v c least .below bs p hd)
+          omega (arith, rules-least L a cap (rest v) g v c (rest-least g v c hc) .below bs p hd)
 
-      by : (r : ℕ) → FirstPlace f (P .count) r → f r < cap → (o : Option Expansion) → P .expand g c r ≡ o → Rebuilt P a (g ∷ []) v c
+      by : (r : ℕ) → FirstPlace (restTotal g v c) (P .count) r → restTotal g v c r < cap → (o : Option Expansion) → P .expand g c r ≡ o
+          → Rebuilt P a (g ∷ []) v c
       by r place ht none e = absurd (omega (arith, rw e at ht))
       by r place ht (some m) e =
           let h′ : a * P .weight r + m .distance + backward C cap cell (m .parts) v (m .carry) < cap = rw e at ht in
-          let (bs, p, fp) = rebuilt-row (m .parts) (items c r m e) v (m .carry) (L .fits g c r m hc e) (omega arith) in (
-            r ∷ bs,
-            priceOf (P .weight r) m ⊞ p,
-            first-rule L a cap g [] v c f (λ i _. rule-opening P a cap rest g v c i (least i)) r place ht m bs p e (rw append-nil fp),
-          )
+          let (bs, p, fp) = rebuilt-row (m .parts) (items c r m e) v (m .carry) (L .fits g c r m hc e) (omega arith) in
+          (r ∷ bs, priceOf (P .weight r) m ⊞ p, first-chosen g v c r hc place ht m bs p e fp)
 
   -- every item, where a rank falls
   pub rebuilt : (rank : Item → ℕ) → Falls P rank → (g : Item) → RebuiltItem P a cap C g

@@ -58,12 +58,10 @@ fn packed(rule: Rule) -> u64
     }
 }
 
-// The rule at a place of the packed rules.
-pub fn rule_at(rules: &[u64; 64], r: usize) -> Rule
-    requires { ⌜ r < 64 ⌝ }
-    ensures { λ x. ⌜ x ≡ unpackedOf (getD (now (rules .entry)) r 0) ⌝ }
+// The rule that a number stands for.
+pub fn unpacked(cell: u64) -> Rule
+    ensures { λ r. ⌜ r ≡ unpackedOf cell ⌝ }
 {
-    let cell = rules[r];
     let head = (cell / 2 % 256) as u8;
     let weight = (cell / 512 % 65536) as u16;
     let n = (cell / 33554432 % 256) as u8;
@@ -75,6 +73,14 @@ pub fn rule_at(rules: &[u64; 64], r: usize) -> Rule
         weight,
         arity: n,
     }
+}
+
+// The rule at a place of the packed rules.
+pub fn rule_at(rules: &[u64; 64], r: usize) -> Rule
+    requires { ⌜ r < 64 ⌝ }
+    ensures { λ x. ⌜ x ≡ unpackedOf (getD (now (rules .entry)) r 0) ⌝ }
+{
+    unpacked(rules[r])
 }
 
 // The rules of a grammar, packed.

@@ -4,7 +4,7 @@ use mathlib.Core.List.{List, [], _∷_, _++_}
 use Prim.Native.Nat.{ℕ, zero, suc, _+_, _≤_, _<_}
 use native.Mathlib.Nat.{suc-add, zero-add}
 use native.Mathlib.Omega.{arith}
-use lib.ListN.{length, set}
+use lib.ListN.{length, drop, set}
 
 module _ {A : Type 0} where
   -- bs over the front of xs, as far as there is room; the cells behind bs are those of xs
@@ -31,6 +31,13 @@ module _ {A : Type 0} where
   length-over-from zero bs xs = length-over bs xs
   length-over-from (suc n) bs [] = refl
   length-over-from (suc n) bs (x ∷ xs) = ap suc (length-over-from n bs xs)
+
+  -- what fits, and then the cells behind it
+  pub over-drop : (bs xs : List A) → length bs ≤ length xs → over bs xs ≡ bs ++ drop (length bs) xs
+  unfolding over
+  over-drop [] xs h = refl
+  over-drop (b ∷ bs) [] h = let f : ⊥ = omega arith in absurd f
+  over-drop (b ∷ bs) (x ∷ xs) h = ap (λ (l : List A). b ∷ l) (over-drop bs xs (omega arith))
 
   -- nothing written
   pub over-nil : (xs : List A) → over [] xs ≡ xs

@@ -63,34 +63,34 @@ module _ (s : Sheet) where
     unfolding Derived
     least-total-below bs R D p = omega (arith, bars-least .below bs (priceOf0 R D) (valid-derived s bs R D p), total-priced R D)
 
+    -- below the cap the first least list of the bars is the first tree, and it totals that
+    module _ (h : leastTotal s < NONE) (bs : List ℕ) (p : Price) (f : First (instanceOf s) a (bars s) (only NONE 0) 0 bs p) where
+      least-is : total a (only NONE 0) p ≡ leastTotal s
+      least-is = first-total (instanceOf s) a NONE (bars s) (only NONE 0) 0 (leastTotal s) bs p bars-least h f
+
+      none-out : p .carry ≡ 0
+      none-out = only-below NONE 0 (p .carry) (omega (arith, least-is, h))
+
+      zero-cost : only NONE 0 (p .carry) ≡ 0
+      zero-cost = rw none-out (only-same NONE 0)
+
+      pub first-total-is : totalOf s (p .weight) (p .distance) ≡ leastTotal s
+      first-total-is = omega (arith, least-is, zero-cost)
+
+      pub first-is-tree : FirstTree bs (p .weight) (p .distance)
+      unfolding Derived
+      first-is-tree = record {
+        tree = record {
+          valid = derived-valid s bs (p .weight) (p .distance)
+              (f .reads ∙ ap some (price-eq p (priceOf0 (p .weight) (p .distance)) none-out refl refl));
+          least = λ xs R D q. omega (arith, first-total-is, least-total-below xs R D q);
+        };
+        first = λ xs R D q k. f .first xs (priceOf0 R D) (valid-derived s xs R D q) (omega (arith, zero-cost, total-priced R D));
+      }
+
     -- below the cap there is a first tree, and it totals that
     pub first-tree : leastTotal s < NONE → (bs : List ℕ) × (R : ℕ) × (D : ℕ) × FirstTree bs R D × (totalOf s R D ≡ leastTotal s)
-    unfolding leastTotal cellOf Derived
-    first-tree h = go (first-exists (lawful s) a NONE (λ g. g .len) (falls s good) (bars s) (only NONE 0) 0 (omega arith) h)
-      where
-        go : (bs : List ℕ) × (p : Price) × First (instanceOf s) a (bars s) (only NONE 0) 0 bs p
-            → (bs : List ℕ) × (R : ℕ) × (D : ℕ) × FirstTree bs R D × (totalOf s R D ≡ leastTotal s)
-        go (bs, p, f) = (bs, p .weight, p .distance, record { tree = record { valid = own; least = low }; first = lex }, same)
-          where
-            e : total a (only NONE 0) p ≡ leastTotal s
-            e = first-total (instanceOf s) a NONE (bars s) (only NONE 0) 0 (leastTotal s) bs p bars-least h f
-
-            z : p .carry ≡ 0
-            z = only-below NONE 0 (p .carry) (omega (arith, e, h))
-
-            zero-cost : only NONE 0 (p .carry) ≡ 0
-            zero-cost = rw z (only-same NONE 0)
-
-            same : totalOf s (p .weight) (p .distance) ≡ leastTotal s
-            same = omega (arith, e, zero-cost)
-
-            own : Priced s bs (p .weight) (p .distance)
-            own =
-                derived-valid s bs (p .weight) (p .distance)
-                (f .reads ∙ ap some (price-eq p (priceOf0 (p .weight) (p .distance)) z refl refl))
-
-            low : (xs : List ℕ) (R′ D′ : ℕ) → Priced s xs R′ D′ → totalOf s (p .weight) (p .distance) ≤ totalOf s R′ D′
-            low xs R′ D′ q = omega (arith, same, least-total-below xs R′ D′ q)
-
-            lex : (xs : List ℕ) (R′ D′ : ℕ) → Priced s xs R′ D′ → totalOf s R′ D′ ≤ totalOf s (p .weight) (p .distance) → Lex bs xs
-            lex xs R′ D′ q k = f .first xs (priceOf0 R′ D′) (valid-derived s xs R′ D′ q) (omega (arith, zero-cost, total-priced R′ D′))
+    unfolding leastTotal cellOf
+    first-tree h =
+        let (bs, p, f) = first-exists (lawful s) a NONE (λ g. g .len) (falls s good) (bars s) (only NONE 0) 0 (omega arith) h in
+        (bs, p .weight, p .distance, first-is-tree h bs p f, first-total-is h bs p f)

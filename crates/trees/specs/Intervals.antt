@@ -21,7 +21,7 @@ pub record Aligned (start : ℕ) (g : Item) : Type 0 where
   pub ends : g .left + g .len ≤ start + barUnits
 
 -- part j of k: the (times × k + j)-th interval of its length
-aligned-part : (start : ℕ) (g : Item) (k j q : ℕ) → Aligned start g → g .len % k ≡ 0 → j < k
+pub aligned-part : (start : ℕ) (g : Item) (k j q : ℕ) → Aligned start g → g .len % k ≡ 0 → j < k
     → Aligned start (partOf g k j q)
 aligned-part start g k j q a z h = record { times = a .times * k + j; is = same; ends = inside }
   where

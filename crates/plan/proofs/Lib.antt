@@ -1,0 +1,4 @@
+pub mod RuleSteps
+pub mod LeafSteps
+pub mod SectionSteps
+pub mod PlanSteps

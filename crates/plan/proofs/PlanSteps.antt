@@ -1,0 +1,176 @@
+-- Steps of filling the plan: its cells so far, and what all cells together are of a sheet.
+use Prim.Native.Nat.{ℕ, _+_, _*_, _≤_, _<_}
+use mathlib.Core.Path.{_≡_, refl, sym, ap, _∙_}
+use mathlib.Core.List.{List, map}
+use native.Mathlib.Omega.{arith}
+use borrow.Author.Count.{below-more}
+use lib.ListN.{length, getD, set, length-set, List·getD-eq-default}
+use lib.Seq.{getD-set-same, getD-set-other}
+use Rattle.slices.specs.Pad.{pad, getD-pad}
+use Rattle.sheet.specs.declared.table.GrammarTable.{GrammarTable}
+use Rattle.sheet.specs.Sheet.{Grammar, Sheet}
+use Rattle.sheet.specs.Good.{GoodRules}
+use Rattle.sheet.specs.Held.{partsOf, childCells, grammarTable, noPlaying}
+use Rattle.sizes.specs.declared.LengthTable.{LengthTable}
+use Rattle.sizes.specs.Sizes.{lengthsOf}
+use Rattle.sizes.specs.Held.{lengthTable}
+use Rattle.sizes.specs.SizesLaws.{count-length}
+use Rattle.expansions.specs.Tables.{unpackedOf, PackedRules, RulesHeld}
+use Rattle.plan.specs.Plan.{ruleCount, lengths, lengthAt, PartLength, Prepared}
+use Rattle.plan.specs.PlanLaws.{lengths-most, length-positive}
+use Rattle.plan.specs.Sections.{LeastLeaves, PartAmong, LengthCells, Section}
+
+-- ---- cell after cell
+
+module _ (rules children leaves lens : List ℕ) (count : ℕ) where
+  -- the first i cells
+  pub record Cells (cells : List ℕ) (i : ℕ) : Type 0 where
+    pub size : length cells ≡ 1484
+    pub each : (j : ℕ) → j < i → Section rules children leaves lens count j (getD cells j 0)
+
+  pub cells-next : (cells : List ℕ) (i x : ℕ) → Cells cells i → i < 1480 → Section rules children leaves lens count i x
+      → Cells (set cells i x) (i + 1)
+  cells-next cells i x so-far within here =
+      record {
+        size = length-set cells i x ∙ so-far .size;
+        each =
+            below-more _ _
+            (λ j l. rw (getD-set-other cells i j x 0 (λ e. omega arith)) (so-far .each j l))
+            (rw (getD-set-same cells i x 0 (omega (arith, so-far .size))) here);
+      }
+
+-- the four numbers behind the sections
+abbrev finished : (cells : List ℕ) (a q count n : ℕ) → List ℕ
+finished cells a q count n = set (set (set (set cells 1480 a) 1481 q) 1482 count) 1483 n
+
+module _ (cells : List ℕ) (a q count n : ℕ) (size : length cells ≡ 1484) where
+  kept : (j : ℕ) → j < 1480 → getD (finished cells a q count n) j 0 ≡ getD cells j 0
+  kept j l =
+      getD-set-other (set (set (set cells 1480 a) 1481 q) 1482 count) 1483 j n 0 (λ e. omega arith)
+      ∙ getD-set-other (set (set cells 1480 a) 1481 q) 1482 j count 0 (λ e. omega arith)
+      ∙ getD-set-other (set cells 1480 a) 1481 j q 0 (λ e. omega arith)
+      ∙ getD-set-other cells 1480 j a 0 (λ e. omega arith)
+
+  multiplier-there : getD (finished cells a q count n) 1480 0 ≡ a
+  multiplier-there =
+      getD-set-other (set (set (set cells 1480 a) 1481 q) 1482 count) 1483 1480 n 0 (λ e. omega arith)
+      ∙ getD-set-other (set (set cells 1480 a) 1481 q) 1482 1480 count 0 (λ e. omega arith)
+      ∙ getD-set-other (set cells 1480 a) 1481 1480 q 0 (λ e. omega arith) ∙ getD-set-same cells 1480 a 0 (omega arith)
+
+  nonterminals-there : getD (finished cells a q count n) 1481 0 ≡ q
+  nonterminals-there =
+      getD-set-other (set (set (set cells 1480 a) 1481 q) 1482 count) 1483 1481 n 0 (λ e. omega arith)
+      ∙ getD-set-other (set (set cells 1480 a) 1481 q) 1482 1481 count 0 (λ e. omega arith)
+      ∙ getD-set-same (set cells 1480 a) 1481 q 0 (rw length-set (omega arith))
+
+  lengths-there : getD (finished cells a q count n) 1482 0 ≡ count
+  lengths-there =
+      getD-set-other (set (set (set cells 1480 a) 1481 q) 1482 count) 1483 1482 n 0 (λ e. omega arith)
+      ∙ getD-set-same (set (set cells 1480 a) 1481 q) 1482 count 0 (simp length-set (omega arith))
+
+  rules-there : getD (finished cells a q count n) 1483 0 ≡ n
+  rules-there = getD-set-same (set (set (set cells 1480 a) 1481 q) 1482 count) 1483 n 0 (simp length-set (omega arith))
+
+-- ---- the plan
+
+-- the tables of a sheet
+pub record TablesOf (s : Sheet) (rules children leaves lens : List ℕ) (a q count n : ℕ) : Type 0 where
+  pub good : GoodRules (s .grammar)
+  pub rules-are : PackedRules (s .grammar) rules
+  pub children-are : children ≡ childCells (map partsOf (s .grammar .rules))
+  pub leaves-are : LeastLeaves s leaves
+  pub lens-are : lens ≡ pad 84 0 (lengthsOf (s .grammar .rules))
+  pub a-is : a ≡ s .grammar .multiplier
+  pub q-is : q ≡ s .grammar .nonterminals
+  pub count-is : count ≡ length (lengthsOf (s .grammar .rules))
+  pub n-is : n ≡ ruleCount s
+
+-- a good grammar's table has at most 64 rules
+pub few-rules : (g : GrammarTable) (h : Grammar) → GoodRules h → g ≡ grammarTable h → g .count ≤ 64
+unfolding grammarTable
+few-rules g h good e = omega (arith, ap (λ (t : GrammarTable). t .count) e, good .most)
+
+-- its lengths, from the front of the table
+pub length-cells : (h : Grammar) → GoodRules h → (t : LengthTable) → t ≡ lengthTable (lengthsOf (h .rules))
+    → LengthCells (t .cells) (t .count)
+unfolding lengthTable
+length-cells h good t e =
+    let s : Sheet = record { grammar = h; playing = noPlaying 0 } in
+    let count : t .count ≡ lengths s = ap (λ (x : LengthTable). x .count) e ∙ sym (count-length (h .rules)) in
+    let at : (i : ℕ) → i < 84 → getD (t .cells) i 0 ≡ lengthAt s i =
+    λ i l. ap (λ (x : LengthTable). getD (x .cells) i 0) e ∙ getD-pad 84 0 (lengthsOf (h .rules)) i l in
+    record {
+      positive = λ i l.
+          let within : i < lengths s = omega (arith, count) in
+          rw (at i (omega (arith, lengths-most s))) (length-positive s good i within);
+      past = λ i l m. at i m ∙ List·getD-eq-default (lengthsOf (h .rules)) 0 (rw (← count-length (h .rules)) (omega (arith, count)));
+    }
+
+-- what the calls told
+pub tables-of : (s : Sheet) → GoodRules (s .grammar) → (g : GrammarTable) → g ≡ grammarTable (s .grammar) → (rules leaves : List ℕ)
+    (reached : LengthTable) → ((h : Grammar) → g ≡ grammarTable h → PackedRules h rules)
+    → ((u : Sheet) → RulesHeld u rules → g .multiplier ≡ u .grammar .multiplier → g .count ≡ ruleCount u → LeastLeaves u leaves)
+    → ((h : Grammar) → GoodRules h → g ≡ grammarTable h → reached ≡ lengthTable (lengthsOf (h .rules)))
+    → TablesOf s rules (g .children) leaves (reached .cells) (g .multiplier) (g .nonterminals) (reached .count) (g .count)
+unfolding grammarTable lengthTable
+tables-of s good g e rules leaves reached packs lowers reaches =
+    let packed = packs (s .grammar) e in
+    let lens = reaches (s .grammar) good e in
+    let multiplied = ap (λ (t : GrammarTable). t .multiplier) e in
+    let counted = ap (λ (t : GrammarTable). t .count) e in
+    record {
+      good = good;
+      rules-are = packed;
+      children-are = ap (λ (t : GrammarTable). t .children) e;
+      leaves-are = lowers s (record { good = good; rules = packed }) multiplied counted;
+      lens-are = ap (λ (t : LengthTable). t .cells) lens;
+      a-is = multiplied;
+      q-is = ap (λ (t : GrammarTable). t .nonterminals) e;
+      count-is = ap (λ (t : LengthTable). t .count) lens;
+      n-is = counted;
+    }
+
+module _ (s : Sheet) (rules children leaves lens : List ℕ) (a q count n : ℕ) (t : TablesOf s rules children leaves lens a q count n) where
+  count-lengths : count ≡ lengths s
+  count-lengths = t .count-is ∙ sym (count-length (s .grammar .rules))
+
+  lens-at : (l : ℕ) → l < 84 → getD lens l 0 ≡ lengthAt s l
+  lens-at l h = ap (λ (xs : List ℕ). getD xs l 0) (t .lens-are) ∙ getD-pad 84 0 (lengthsOf (s .grammar .rules)) l h
+
+  -- a place among the cells is an index of a length
+  part-of : (l k h : ℕ) → l < 84 → PartAmong lens count l k h → PartLength s l k h
+  part-of l k h within p =
+      record {
+        is = λ less.
+            sym (lens-at l within) ∙ p .is (omega (arith, count-lengths))
+            ∙ ap (λ (x : ℕ). k * x) (lens-at h (omega (arith, lengths-most s)));
+        none = λ past i less e.
+            p .none (omega (arith, count-lengths)) i (omega (arith, count-lengths))
+            (lens-at l within ∙ e ∙ ap (λ (x : ℕ). k * x) (sym (lens-at i (omega (arith, lengths-most s)))));
+      }
+
+  pub prepared : (cells : List ℕ) (i : ℕ) → Cells rules children leaves lens count cells i → 1480 ≤ i
+      → Prepared s (finished cells a q count n)
+  prepared cells i all past =
+      record {
+        good = t .good;
+        rules = λ r l. ap unpackedOf (is r (omega arith) ∙ at r (omega arith) .rule l) ∙ t .rules-are r l;
+        child = λ r j l m.
+            is (64 + 8 * r + j) (omega arith) ∙ at (64 + 8 * r + j) (omega arith) .child (8 * r + j) (omega arith) (omega arith)
+            ∙ ap (λ (xs : List ℕ). getD xs (8 * r + j) 0) (t .children-are);
+        leaves = λ p m l k.
+            is (576 + 4 * p + m) (omega arith) ∙ at (576 + 4 * p + m) (omega arith) .leaf (4 * p + m) (omega arith) (omega arith)
+            ∙ t .leaves-are p m l k;
+        length-at = λ l h. is (640 + l) (omega arith) ∙ at (640 + l) (omega arith) .length l h refl ∙ lens-at l h;
+        part = λ l k h m. rw (is (724 + 9 * l + k) (omega arith)) (part-of l k _ h (at (724 + 9 * l + k) (omega arith) .part l k h m refl));
+        multiplier = multiplier-there cells a q count n (all .size) ∙ t .a-is;
+        nonterminals = nonterminals-there cells a q count n (all .size) ∙ t .q-is;
+        lengths-are = lengths-there cells a q count n (all .size) ∙ count-lengths;
+        rules-are = rules-there cells a q count n (all .size) ∙ t .n-is;
+      }
+    where
+      is : (j : ℕ) → j < 1480 → getD (finished cells a q count n) j 0 ≡ getD cells j 0
+      is j l = kept cells a q count n (all .size) j l
+
+      at : (j : ℕ) → j < 1480 → Section rules children leaves lens count j (getD cells j 0)
+      at j l = all .each j (omega arith)

@@ -1,0 +1,145 @@
+-- Steps of reading one rule of the plan: what the rule in a cell tells of the sheet's rule, and so of its cost, of how it divides a length
+-- and of whether it is a leaf.
+use Prim.Native.Nat.{ℕ, _*_, _<_, _≤_}
+use mathlib.Core.Path.{_≡_, refl, sym, ap, _∙_}
+use mathlib.Core.Bool.{true, false, false≢true}
+use mathlib.Core.List.{List}
+use mathlib.Core.Logic.{inl, inr}
+use mathlib.Core.Option.{Option, none, some, Option·elim}
+use native.Mathlib.Nat.{mul-le-mul}
+use native.Mathlib.Omega.{arith}
+use lib.ListN.{length, getD}
+use Rattle.sheet.specs.declared.table.Rule as held
+use Rattle.sheet.specs.declared.table.Rule.the-variants.{Division, Leaf}
+use Rattle.sheet.specs.Sheet.{Rule, division, leaf, Sheet}
+use Rattle.trees.specs.ValidTrees.{ruleAt, weightOf, weightAt}
+use Rattle.trees.specs.Room.{good-division}
+use Rattle.expansions.specs.Tables.{unpackedOf, cellOf, PackedRules}
+use Rattle.expansions.specs.RuleCells.{leaf≢division, leaf-rule, DivisionRule, division-rule}
+use Rattle.plan.specs.declared.Split.{Split}
+use Rattle.plan.specs.Plan.{lengths, partCell, multiplierCell, lengthsCell, Prepared}
+use Rattle.plan.specs.Plan.{Divides, PartsOf, NoDivision, SplitAt, LeafRule}
+use Rattle.plan.specs.PlanLaws.{part-listed}
+
+-- the sheet's rule has the cell that was read
+pub cell-read : (s : Sheet) (cells : List ℕ) (r : ℕ) → PackedRules (s .grammar) cells → r < 64 → (rule x : held.Rule)
+    → rule ≡ unpackedOf (getD cells r 0) → rule ≡ x → cellOf (ruleAt s r) ≡ x
+cell-read s cells r packed below rule x is e = sym (packed r below) ∙ sym is ∙ e
+
+-- the weight in a cell
+division-weight : (o : Option Rule) (h w k : ℕ) → cellOf o ≡ Division h w k → w ≡ Option·elim o 0 weightOf
+unfolding Option·elim
+division-weight none h w k e = cc
+division-weight (some (leaf a b n)) h w k e = absurd (leaf≢division _ _ _ _ _ _ e)
+division-weight (some (division a b ks)) h w k e = cc
+
+leaf-weight : (o : Option Rule) (h w n : ℕ) → cellOf o ≡ Leaf h w n → w ≡ Option·elim o 0 weightOf
+unfolding Option·elim
+leaf-weight o h w n e = rw (leaf-rule o h w n e)
+
+-- what stands for no division
+abbrev noSplit : Split
+noSplit = record { arity = 0; part = 0 }
+
+-- a times a weight
+pub weighted-most : (a w : ℕ) → a < 65536 → w < 65536 → a * w ≤ 4294836225
+weighted-most a w h l = mul-le-mul {n₁ = a} {m₁ = w} {n₂ = 65535} {m₂ = 65535} (omega arith) (omega arith)
+
+pub cost-most : (s : Sheet) (plan : List ℕ) → Prepared s plan → (w : ℕ) → w < 65536 → multiplierCell plan * w ≤ 4294836225
+cost-most s plan p w l = weighted-most (multiplierCell plan) w (omega (arith, p .multiplier, p .good .multiplier)) l
+
+module _ (s : Sheet) (plan : List ℕ) (r : ℕ) (rule : held.Rule) (below : r < 64) (is : rule ≡ unpackedOf (getD plan r 0))
+    (p : Prepared s plan) where
+  cell : (x : held.Rule) → rule ≡ x → cellOf (ruleAt s r) ≡ x
+  cell x e = cell-read s plan r (p .rules) below rule x is e
+
+  -- ---- its cost
+
+  pub division-cost : (h w k : ℕ) → rule ≡ Division h w k → multiplierCell plan * w ≡ s .grammar .multiplier * weightAt s r
+  unfolding weightAt
+  division-cost h w k e = rw (p .multiplier) (ap (λ (x : ℕ). s .grammar .multiplier * x) (division-weight (ruleAt s r) h w k (cell _ e)))
+
+  pub leaf-cost : (h w n : ℕ) → rule ≡ Leaf h w n → multiplierCell plan * w ≡ s .grammar .multiplier * weightAt s r
+  unfolding weightAt
+  leaf-cost h w n e = rw (p .multiplier) (ap (λ (x : ℕ). s .grammar .multiplier * x) (leaf-weight (ruleAt s r) h w n (cell _ e)))
+
+  -- ---- whether it is a leaf
+
+  pub not-division : (h w k q n : ℕ) → rule ≡ Division h w k → LeafRule s r q n false
+  not-division h w k q n e =
+      record {
+        leaf-is = λ f. absurd (false≢true f);
+        not-leaf = λ f v m. absurd (leaf≢division _ _ _ _ _ _ (sym (ap cellOf m) ∙ cell _ e));
+      }
+
+  pub other-leaf : (h w m q n : ℕ) → rule ≡ Leaf h w m → ((h ≡ q) × (m ≡ n) → ⊥) → LeafRule s r q n false
+  other-leaf h w m q n e f =
+      record {
+        leaf-is = λ t. absurd (false≢true t);
+        not-leaf = λ t v o. let same : Leaf q v n ≡ Leaf h w m = sym (ap cellOf o) ∙ cell _ e in f (cc same, cc same);
+      }
+
+  pub this-leaf : (h w m q n : ℕ) → rule ≡ Leaf h w m → h ≡ q → m ≡ n → LeafRule s r q n true
+  this-leaf h w m q n e head kind =
+      record {
+        leaf-is = λ t. (w, rw (← head, ← kind) (leaf-rule (ruleAt s r) h w m (cell _ e)));
+        not-leaf = λ f. absurd (false≢true (sym f));
+      }
+
+  -- ---- how it divides
+
+  idle-split : (q l : ℕ) → NoDivision s q l r → SplitAt s q l r noSplit
+  idle-split q l n = record { idle = λ z. n; divides = λ f. absurd (f refl) }
+
+  pub no-division : (h w n q l : ℕ) → rule ≡ Leaf h w n → SplitAt s q l r noSplit
+  no-division h w n q l e = idle-split q l (λ v ks o. absurd (leaf≢division _ _ _ _ _ _ (sym (cell _ e) ∙ ap cellOf o)))
+
+  pub other-head : (h w k q l : ℕ) → rule ≡ Division h w k → (h ≡ q → ⊥) → SplitAt s q l r noSplit
+  other-head h w k q l e f =
+      idle-split q l (λ v ks o. let same : Division h w k ≡ Division q v (length ks) = sym (cell _ e) ∙ ap cellOf o in absurd (f (cc same)))
+
+  pub same-head : (h w k q l : ℕ) (x : Split) → rule ≡ Division h w k → h ≡ q → PartsOf s l k x → l < lengths s → SplitAt s q l r x
+  same-head h w k q l x e head parts within =
+      record { idle = none-there; divides = λ f. into f (division-rule (ruleAt s r) h w k (cell _ e)) }
+    where
+      none-there : x .arity ≡ 0 → NoDivision s q l r
+      none-there z v ks o divided =
+          let same : Division h w k ≡ Division q v (length ks) = sym (cell _ e) ∙ ap cellOf o in
+          let count : k ≡ length ks = cc same in
+          let good = good-division s (p .good) r q v ks o in
+          let (i, less, whole) = part-listed s (p .good) r l q v ks within o divided in
+          parts .idle z (omega (arith, good .two)) (omega (arith, good .eight)) i less (rw count whole)
+
+      into : (x .arity ≡ 0 → ⊥) → DivisionRule (ruleAt s r) h w k → Divides s q l r (x .arity) (x .part)
+      into f (inl (o, z)) = absurd (f (parts .into f ∙ z))
+      into f (inr (ks, o, z)) =
+          record {
+            weight = w;
+            parts = ks;
+            rule = rw (← head) o;
+            count = sym z ∙ sym (parts .into f);
+            shorter = parts .shorter f;
+            whole = rw (parts .into f) (parts .whole f);
+          }
+
+-- a length in k parts, by the index that the plan has of a part
+module _ (s : Sheet) (plan : List ℕ) (l k : ℕ) (within : l < 84) (p : Prepared s plan) where
+  pub no-part : k ≤ 8 → lengthsCell plan ≤ partCell plan l k → PartsOf s l k noSplit
+  no-part most past =
+      record {
+        idle = λ z i j. p .part l k within (omega arith) .none (omega (arith, p .lengths-are));
+        into = λ f. absurd (f refl);
+        shorter = λ f. absurd (f refl);
+        whole = λ f. absurd (f refl);
+      }
+
+  pub some-part : (k ≡ 0 → ⊥) → k ≤ 8 → partCell plan l k < lengthsCell plan
+      → PartsOf s l k (record { arity = k; part = partCell plan l k })
+  some-part least most less =
+      let shorter : partCell plan l k < lengths s = omega (arith, p .lengths-are) in
+      record {
+        idle = λ z. absurd (least z);
+        into = λ f. refl;
+        shorter = λ f. shorter;
+        whole = λ f. p .part l k within (omega arith) .is shorter;
+      }

@@ -1,0 +1,83 @@
+-- Steps of filling the plan: the place of a part, and a cell by sections.
+use Prim.Native.Nat.{ℕ, _-_, _*_, _/_, _%_, _≤_, _<_}
+use mathlib.Core.Path.{_≡_, ap, subst₂}
+use mathlib.Core.List.{List}
+use native.Mathlib.Nat.{mul-le-mul}
+use native.Mathlib.Omega.{arith}
+use lib.ListN.{getD}
+use Rattle.plan.specs.Sections.{PartAmong, LengthCells, Section}
+
+-- ---- the place of a part
+
+-- none of the first h lengths is the part
+abbrev pub NotBelow : (lens : List ℕ) (l k h : ℕ) → Type 0
+NotBelow lens l k h = (i : ℕ) → i < h → getD lens l 0 ≡ k * getD lens i 0 → ⊥
+
+-- k parts fit 64 bits
+pub part-most : (k x : ℕ) → k < 9 → x < 4294967296 → k * x ≤ 34359738360
+part-most k x l m = mul-le-mul {n₁ = k} {m₁ = x} {n₂ = 8} {m₂ = 4294967295} (omega arith) (omega arith)
+
+pub part-here : (lens : List ℕ) (count l k h : ℕ) → h < count → getD lens l 0 ≡ k * getD lens h 0 → PartAmong lens count l k h
+part-here lens count l k h less e = record { is = λ f. e; none = λ past. absurd (omega arith) }
+
+pub part-nowhere : (lens : List ℕ) (count l k h : ℕ) → count ≤ h → NotBelow lens l k h → PartAmong lens count l k count
+part-nowhere lens count l k h past f = record { is = λ g. absurd (omega arith); none = λ g i less. f i (omega arith) }
+
+-- behind the lengths stands 0, which is no times any, and no other number of times a length
+module _ (lens : List ℕ) (count l k : ℕ) (t : LengthCells lens count) (past : count ≤ l) (within : l < 84) where
+  pub zero-parts : k ≡ 0 → PartAmong lens count l k 0
+  zero-parts e = record { is = λ less. rw e (omega (arith, t .past l past within)); none = λ none i less. absurd (omega arith) }
+
+  pub no-parts : (k ≡ 0 → ⊥) → PartAmong lens count l k count
+  no-parts n =
+      record {
+        is = λ less. absurd (omega arith);
+        none = λ all i less e.
+            let product : 1 * 1 ≤ k * getD lens i 0 =
+            mul-le-mul {n₁ = 1} {m₁ = 1} {n₂ = k} {m₂ = getD lens i 0} (omega (arith, n)) (t .positive i less) in
+            omega (arith, t .past l past within);
+      }
+
+-- ---- a cell, by sections
+
+module _ (rules children leaves lens : List ℕ) (count i : ℕ) where
+  pub at-child : 64 ≤ i → i < 576 → Section rules children leaves lens count i (getD children (i - 64) 0)
+  at-child h m =
+      record {
+        rule = λ l. absurd (omega arith);
+        child = λ j l e. ap (λ (k : ℕ). getD children k 0) (omega arith);
+        leaf = λ j l e. absurd (omega arith);
+        length = λ j l e. absurd (omega arith);
+        part = λ j k l f e. absurd (omega arith);
+      }
+
+  pub at-leaf : 576 ≤ i → i < 640 → Section rules children leaves lens count i (getD leaves (i - 576) 0)
+  at-leaf h m =
+      record {
+        rule = λ l. absurd (omega arith);
+        child = λ j l e. absurd (omega arith);
+        leaf = λ j l e. ap (λ (k : ℕ). getD leaves k 0) (omega arith);
+        length = λ j l e. absurd (omega arith);
+        part = λ j k l f e. absurd (omega arith);
+      }
+
+  pub at-length : 640 ≤ i → i < 724 → Section rules children leaves lens count i (getD lens (i - 640) 0)
+  at-length h m =
+      record {
+        rule = λ l. absurd (omega arith);
+        child = λ j l e. absurd (omega arith);
+        leaf = λ j l e. absurd (omega arith);
+        length = λ j l e. ap (λ (k : ℕ). getD lens k 0) (omega arith);
+        part = λ j k l f e. absurd (omega arith);
+      }
+
+  pub at-part : (x : ℕ) → 724 ≤ i → PartAmong lens count ((i - 724) / 9) ((i - 724) % 9) x
+      → Section rules children leaves lens count i x
+  at-part x h p =
+      record {
+        rule = λ l. absurd (omega arith);
+        child = λ j l e. absurd (omega arith);
+        leaf = λ j l e. absurd (omega arith);
+        length = λ j l e. absurd (omega arith);
+        part = λ j k l f e. subst₂ (λ (y z : ℕ). PartAmong lens count y z x) (omega arith) (omega arith) p;
+      }

@@ -1,0 +1,3 @@
+pub mod Plan
+pub mod PlanLaws
+pub mod Sections

@@ -1,0 +1,118 @@
+-- What the search looks up of a grammar, as a function of the sheet, and where it stands in the plan: one flat array of numbers that is
+-- prepared once for a sheet.
+use Prim.Native.Nat.{ℕ, _+_, _*_, _%_, _≤_, _<_}
+use mathlib.Core.Path.{_≡_}
+use mathlib.Core.Bool.{Bool, true, false, cond}
+use mathlib.Core.List.{List, map}
+use mathlib.Core.Option.{Option, none, some}
+use lib.Dec.{eqb}
+use lib.ListN.{length, getD}
+use Rattle.sheet.specs.Sheet.{Rule, division, leaf, Sheet}
+use Rattle.sheet.specs.Good.{GoodRules}
+use Rattle.sheet.specs.Held.{partsOf, childCells}
+use Rattle.derivations.specs.Minima.{lowest}
+use Rattle.trees.specs.ValidTrees.{ruleAt}
+use Rattle.trees.specs.LeastTotal.{NONE}
+use Rattle.sizes.specs.Sizes.{lengthsOf, lengthCount}
+use Rattle.expansions.specs.Tables.{PackedRules}
+use Rattle.plan.specs.declared.Split.{Split}
+
+-- ---- what is looked up
+
+-- the number of rules
+abbrev pub ruleCount : Sheet → ℕ
+ruleCount s = length (s .grammar .rules)
+
+-- the number of lengths, and the length with index l, from the largest down
+abbrev pub lengths : Sheet → ℕ
+lengths s = lengthCount (s .grammar .rules)
+
+abbrev pub lengthAt : Sheet → ℕ → ℕ
+lengthAt s l = getD (lengthsOf (s .grammar .rules)) l 0
+
+-- what a rule costs as a leaf of nonterminal q with this n; the cap for any other rule
+abbrev pub leafCost : (a q n : ℕ) → Option Rule → ℕ
+leafCost a q n none = NONE
+leafCost a q n (some (leaf h w m)) = cond (eqb h q) (cond (eqb m n) (a * w) NONE) NONE
+leafCost a q n (some (division h w ks)) = NONE
+
+-- the least of them, or the cap
+unfoldable pub leastLeaf : Sheet → (q n : ℕ) → ℕ
+unfolding lowest
+leastLeaf s q n = lowest NONE (λ r. leafCost (s .grammar .multiplier) q n (ruleAt s r)) (ruleCount s)
+
+-- h is the index of the length with index l divided by k; where that is no length, h is past them
+pub record PartLength (s : Sheet) (l k h : ℕ) : Type 0 where
+  pub is : h < lengths s → lengthAt s l ≡ k * lengthAt s h
+  pub none : lengths s ≤ h → (i : ℕ) → i < lengths s → lengthAt s l ≡ k * lengthAt s i → ⊥
+
+-- ---- where it stands
+
+abbrev pub childCell : List ℕ → (r j : ℕ) → ℕ
+childCell plan r j = getD plan (64 + 8 * r + j) 0
+
+abbrev pub leafCell : List ℕ → (q n : ℕ) → ℕ
+leafCell plan q n = getD plan (576 + 4 * q + n) 0
+
+abbrev pub lengthCell : List ℕ → ℕ → ℕ
+lengthCell plan l = getD plan (640 + l) 0
+
+abbrev pub partCell : List ℕ → (l k : ℕ) → ℕ
+partCell plan l k = getD plan (724 + 9 * l + k) 0
+
+abbrev pub multiplierCell : List ℕ → ℕ
+multiplierCell plan = getD plan 1480 0
+
+abbrev pub nonterminalsCell : List ℕ → ℕ
+nonterminalsCell plan = getD plan 1481 0
+
+abbrev pub lengthsCell : List ℕ → ℕ
+lengthsCell plan = getD plan 1482 0
+
+abbrev pub rulesCell : List ℕ → ℕ
+rulesCell plan = getD plan 1483 0
+
+-- the plan of a sheet
+pub record Prepared (s : Sheet) (plan : List ℕ) : Type 0 where
+  pub good : GoodRules (s .grammar)
+  pub rules : PackedRules (s .grammar) plan
+  pub child : (r j : ℕ) → r < 64 → j < 8 → childCell plan r j ≡ getD (childCells (map partsOf (s .grammar .rules))) (8 * r + j) 0
+  pub leaves : (q n : ℕ) → q < 16 → n < 4 → leafCell plan q n ≡ leastLeaf s q n
+  pub length-at : (l : ℕ) → l < 84 → lengthCell plan l ≡ lengthAt s l
+  pub part : (l k : ℕ) → l < 84 → k < 9 → PartLength s l k (partCell plan l k)
+  pub multiplier : multiplierCell plan ≡ s .grammar .multiplier
+  pub nonterminals : nonterminalsCell plan ≡ s .grammar .nonterminals
+  pub lengths-are : lengthsCell plan ≡ lengths s
+  pub rules-are : rulesCell plan ≡ ruleCount s
+
+-- ---- a rule at a nonterminal and a length
+
+-- rule r divides intervals of nonterminal q and the length with index l into `arity` parts of the length with index `part`
+pub record Divides (s : Sheet) (q l r arity part : ℕ) : Type 0 where
+  pub weight : ℕ
+  pub parts : List ℕ
+  pub rule : ruleAt s r ≡ some (division q weight parts)
+  pub count : length parts ≡ arity
+  pub shorter : part < lengths s
+  pub whole : lengthAt s l ≡ arity * lengthAt s part
+
+-- what `split_by` gives: k parts of a length, or arity 0 where there is no such part or k is no arity
+pub record PartsOf (s : Sheet) (l k : ℕ) (x : Split) : Type 0 where
+  pub idle : x .arity ≡ 0 → 0 < k → k ≤ 8 → (i : ℕ) → i < lengths s → lengthAt s l ≡ k * lengthAt s i → ⊥
+  pub into : (x .arity ≡ 0 → ⊥) → x .arity ≡ k
+  pub shorter : (x .arity ≡ 0 → ⊥) → x .part < lengths s
+  pub whole : (x .arity ≡ 0 → ⊥) → lengthAt s l ≡ k * lengthAt s (x .part)
+
+-- rule r is no division of nonterminal q whose arity divides the length with index l
+abbrev pub NoDivision : Sheet → (q l r : ℕ) → Type 0
+NoDivision s q l r = (w : ℕ) (ks : List ℕ) → ruleAt s r ≡ some (division q w ks) → lengthAt s l % length ks ≡ 0 → ⊥
+
+-- what `split_at` gives: arity 0 where there is no division
+pub record SplitAt (s : Sheet) (q l r : ℕ) (x : Split) : Type 0 where
+  pub idle : x .arity ≡ 0 → NoDivision s q l r
+  pub divides : (x .arity ≡ 0 → ⊥) → Divides s q l r (x .arity) (x .part)
+
+-- what `is_leaf` gives: whether rule r is a leaf of nonterminal q with this n
+pub record LeafRule (s : Sheet) (r q n : ℕ) (x : Bool) : Type 0 where
+  pub leaf-is : x ≡ true → (w : ℕ) × (ruleAt s r ≡ some (leaf q w n))
+  pub not-leaf : x ≡ false → (w : ℕ) → ruleAt s r ≡ some (leaf q w n) → ⊥

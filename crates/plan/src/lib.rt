@@ -1,0 +1,170 @@
+// What the search looks up of a grammar, prepared once for a sheet in one flat array: a reference to a struct is not covered, and a
+// grammar by value is copied at each call. The array is read through the functions below alone.
+ghost use mathlib.Core.Path.{_≡_};
+ghost use Prim.Native.Nat.{_+_, _*_, _<_, _≤_};
+ghost use Rattle.sheet.specs.Sheet.{Sheet};
+ghost use Rattle.trees.specs.ValidTrees.{weightAt};
+ghost use Rattle.plan.specs.Plan.{childCell, leafCell, lengthCell, multiplierCell, nonterminalsCell, lengthsCell, rulesCell};
+ghost use Rattle.plan.specs.Plan.{lengths, Prepared, PartsOf, SplitAt, LeafRule};
+
+mod fill;
+
+use expansions::unpacked;
+pub use fill::prepare;
+use sheet::Rule;
+use sheet::Units;
+
+// How a rule divides an interval: into `arity` parts of the length with index `part`; arity 0 where it does not.
+pub struct Split {
+    pub arity: usize,
+    pub part: usize,
+}
+
+// The nonterminal of part j of rule r.
+pub fn child(plan: &[u64; 1484], r: usize, j: usize) -> usize
+    requires { ⌜ (r < 64) × (j < 8) ⌝ }
+    ensures { λ x. ⌜ x ≡ childCell (now (plan .entry)) r j ⌝ }
+{
+    plan[64 + 8 * r + j] as usize
+}
+
+// The least cost of a leaf rule of nonterminal q with this n, or the cap.
+pub fn least_leaf(plan: &[u64; 1484], q: usize, n: usize) -> u64
+    requires { ⌜ (q < 16) × (n < 4) ⌝ }
+    ensures { λ x. ⌜ x ≡ leafCell (now (plan .entry)) q n ⌝ }
+{
+    plan[576 + 4 * q + n]
+}
+
+// The multiplier a.
+pub fn multiplier(plan: &[u64; 1484]) -> u64
+    ensures { λ x. ⌜ x ≡ multiplierCell (now (plan .entry)) ⌝ }
+{
+    plan[1480]
+}
+
+// The number of nonterminals.
+pub fn nonterminals(plan: &[u64; 1484]) -> usize
+    ensures { λ x. ⌜ x ≡ nonterminalsCell (now (plan .entry)) ⌝ }
+{
+    plan[1481] as usize
+}
+
+// The number of lengths.
+pub fn length_count(plan: &[u64; 1484]) -> usize
+    ensures { λ x. ⌜ x ≡ lengthsCell (now (plan .entry)) ⌝ }
+{
+    plan[1482] as usize
+}
+
+// The number of rules.
+pub fn rule_count(plan: &[u64; 1484]) -> usize
+    ensures { λ x. ⌜ x ≡ rulesCell (now (plan .entry)) ⌝ }
+{
+    plan[1483] as usize
+}
+
+// The length with index l.
+pub fn length(plan: &[u64; 1484], l: usize) -> Units
+    requires { ⌜ (l < 84) × ((s : Sheet) × Prepared s (now plan)) ⌝ }
+    ensures { λ r. ⌜ r .0 ≡ lengthCell (now (plan .entry)) l ⌝ }
+{
+    Units(plan[640 + l] as u32)
+}
+
+// The multiplier times the weight of rule r; 0 where there is no rule.
+pub fn cost(plan: &[u64; 1484], r: usize) -> u64
+    requires { ⌜ (r < 64) × ((s : Sheet) × Prepared s (now plan)) ⌝ }
+    ensures { λ x. ⌜
+        (x ≤ 4294836225) × ((s : Sheet) → Prepared s (now (plan .entry)) → x ≡ s .grammar .multiplier * weightAt s r)
+        ⌝ }
+{
+    let a = plan[1480];
+    let rule = unpacked(plan[r]);
+    match rule {
+        Rule::Division {
+            head: _,
+            weight,
+            arity: _,
+        } => a * (weight as u64),
+        Rule::Leaf {
+            head: _,
+            weight,
+            n: _,
+        } => a * (weight as u64),
+    }
+}
+
+// The length with index l in k parts; arity 0 where k is no arity or there is no such length.
+fn split_by(plan: &[u64; 1484], l: usize, k: usize) -> Split
+    requires { ⌜ l < 84 ⌝ }
+    ensures { λ x. ⌜ (x .arity ≤ 8) × ((s : Sheet) → Prepared s (now (plan .entry)) → PartsOf s l k x) ⌝ }
+{
+    if k == 0 {
+        return Split { arity: 0, part: 0 };
+    }
+    if 8 < k {
+        return Split { arity: 0, part: 0 };
+    }
+    let part = plan[724 + 9 * l + k];
+    if plan[1482] <= part {
+        return Split { arity: 0, part: 0 };
+    }
+    Split {
+        arity: k,
+        part: part as usize,
+    }
+}
+
+// How rule r divides an interval of nonterminal q and the length with index l.
+pub fn split_at(plan: &[u64; 1484], q: usize, l: usize, r: usize) -> Split
+    requires { ⌜ (r < 64) × (l < 84) ⌝ }
+    ensures { λ x. ⌜ (x .arity ≤ 8) × ((s : Sheet) → Prepared s (now (plan .entry)) → l < lengths s → SplitAt s q l r x) ⌝ }
+{
+    let rule = unpacked(plan[r]);
+    match rule {
+        Rule::Division {
+            head,
+            weight: _,
+            arity,
+        } => {
+            if head as usize != q {
+                return Split { arity: 0, part: 0 };
+            }
+            split_by(plan, l, arity as usize)
+        }
+        Rule::Leaf {
+            head: _,
+            weight: _,
+            n: _,
+        } => Split { arity: 0, part: 0 },
+    }
+}
+
+// Whether rule r is a leaf of nonterminal q with this n.
+pub fn is_leaf(plan: &[u64; 1484], r: usize, q: usize, n: usize) -> bool
+    requires { ⌜ r < 64 ⌝ }
+    ensures { λ x. ⌜ ((s : Sheet) → Prepared s (now (plan .entry)) → LeafRule s r q n x) ⌝ }
+{
+    let rule = unpacked(plan[r]);
+    match rule {
+        Rule::Division {
+            head: _,
+            weight: _,
+            arity: _,
+        } => false,
+        Rule::Leaf {
+            head,
+            weight: _,
+            n: m,
+        } => {
+            if head as usize != q {
+                return false;
+            }
+            if m as usize != n {
+                return false;
+            }
+            true
+        }
+    }
+}

@@ -1,0 +1,183 @@
+-- `solve`: the invariant of the loop is that `best` is the lesser of what a leaf totals and of what the first r rules total that are
+-- divisions (`Ruled`), and that the table is sound.
+use Prim.Native.Nat.{ℕ, _-_, _≤_}
+use mathlib.Core.Path.{sym, _∙_}
+use native.Mathlib.Omega.{arith}
+use borrow.Author.Needs.{needs}
+use Rattle.sheet.specs.Sheet.{Sheet}
+use Rattle.rows.specs.Rows.{itemAt, SolveEntry}
+use Rattle.rows.specs.NameLaws.{stands-bar, stands-length, solve-room, solve-stored}
+use Rattle.rows.specs.PartLaws.{parted-low}
+use Rattle.rows.specs.TurnLaws.{Ruled, ruled-low, ruled-none, ruled-all, ruled-idle, ruled-more}
+use Rattle.rows.specs.CallLaws.{leaf-entry, leaf-told, rule-in, rules-end, parts-entry, parts-shorter}
+use Rattle.rows.proofs.table.parts.Reads as parts
+use Rattle.rows.proofs.table.solve.Reads as solve
+use Rattle.rows.proofs.table.+lift+part+parts+solve.Lts-solve as solve-lts
+use Rattle.plan.proofs.cost.Reads as cost-reads
+use Rattle.plan.proofs.length.Reads as length-reads
+use Rattle.plan.proofs.rule_count.Reads as rule-count-reads
+use Rattle.plan.proofs.split_at.Reads as split-at-reads
+use Rattle.rows.proofs.table.leaf_row.Reads as leaf-row-reads
+use Rattle.rows.proofs.table.store.Reads as store-reads
+use Rattle.rows.proofs.vector.relax.Reads as relax-reads
+use Rattle.rows.proofs.table.+lift+part+parts+solve.Proof.Measures.{parts-below, solve-at}
+
+abbrev pub Inv-loop : solve-lts.InvT-loop
+Inv-loop plan us rows₀ bar q l left from c at n best₀ r₀ rows best r =
+    (r ≤ n) × ((s : Sheet) → SolveEntry s plan us rows₀ bar q l left from c at → Ruled s rows (itemAt s q l left) c r best)
+
+abbrev pub μ-loop : solve-lts.MeasureT-loop
+μ-loop plan us rows₀ bar q l left from c at n best₀ r₀ rows best r = n - r
+
+module _ (t : ℕ) where
+  -- the readings of the callees of `solve`
+  abbrev pub calls : solve-lts.Claims
+  calls = (
+    length-reads.Asked,
+    length-reads.Learnt,
+    rule-count-reads.Asked,
+    rule-count-reads.Learnt,
+    leaf-row-reads.Asked,
+    leaf-row-reads.Learnt,
+    split-at-reads.Asked,
+    split-at-reads.Learnt,
+    parts-below t,
+    parts.Post,
+    cost-reads.Asked,
+    cost-reads.Learnt,
+    relax-reads.Asked,
+    relax-reads.Learnt,
+    store-reads.Asked,
+    store-reads.Learnt,
+  )
+
+  pub length-requires : solve-lts.Need-length-requires calls (solve-at t) solve.Post Inv-loop μ-loop
+  length-requires c κs =
+      let start = c .before in
+      let e = start .pre .1 .1 in
+      (stands-length (e .entry .stands), (start .pre .1 .0, e .entry .stands .in-bar .prepared))
+
+  pub rule-count-requires : solve-lts.Need-rule-count-requires calls (solve-at t) solve.Post Inv-loop μ-loop
+  rule-count-requires c κs = search needs
+
+  pub leaf-row-requires : solve-lts.Need-leaf-row-requires calls (solve-at t) solve.Post Inv-loop μ-loop
+  leaf-row-requires c κs =
+      let start = c .before .before .before in
+      let e = start .pre .1 .1 in
+      (start .pre .1 .0, leaf-entry (e .entry) (c .before .length .ensures))
+
+  pub loop-holds : solve-lts.Need-loop-holds calls (solve-at t) solve.Post Inv-loop μ-loop
+  loop-holds c =
+      let length = c .before .before .length in (
+        omega arith,
+        λ s e.
+            let told = leaf-told (e .entry) (length .ensures) (c .leaf-row .ensures s (leaf-entry (e .entry) (length .ensures))) in
+            ruled-none _ _ told (e .entry .sound),
+      )
+
+  pub add-r : solve-lts.Need-add-r calls (solve-at t) solve.Post Inv-loop μ-loop
+  add-r c = search needs
+
+  pub split-at-requires : solve-lts.Need-split-at-requires calls (solve-at t) solve.Post Inv-loop μ-loop
+  split-at-requires c κs =
+      let start = c .before .before .before .before .before .before in
+      let rule-count = c .before .before .before .rule-count in
+      let loop-test = c .loop-test in
+      let e = start .pre .1 .1 in
+      (omega (arith, loop-test .taken, rule-in e (rule-count .ensures) .1), stands-length (e .entry .stands))
+
+  pub parts-requires : solve-lts.Need-parts-requires calls (solve-at t) solve.Post Inv-loop μ-loop
+  parts-requires c κs =
+      let start = c .before .before .before .before .before .before .before .before .before in
+      let loop = c .before .before .before .before .loop in
+      let split-at = c .before .before .split-at in
+      let if1 = c .before .if1 in
+      let e = start .pre .1 .1 in
+      let d = split-at .ensures .1 _ (e .entry .stands .in-bar .prepared) (e .entry .stands .length-in) .divides (if1 .taken) in
+      (omega (arith, start .pre .0, parts-shorter e d), (start .pre .1 .0, parts-entry e d (loop .inv .1 _ e .sound)))
+
+  pub cost-requires : solve-lts.Need-cost-requires calls (solve-at t) solve.Post Inv-loop μ-loop
+  cost-requires c κs =
+      let start = c .before .before .before .before .before .before .before .before .before .before .before .before in
+      let rule-count = c .before .before .before .before .before .before .before .before .before .rule-count in
+      let loop-test = c .before .before .before .before .before .before .loop-test in
+      let e = start .pre .1 .1 in
+      (omega (arith, loop-test .taken, rule-in e (rule-count .ensures) .1), (start .pre .1 .0, e .entry .stands .in-bar .prepared))
+
+  pub relax-requires : solve-lts.Need-relax-requires calls (solve-at t) solve.Post Inv-loop μ-loop
+  relax-requires c κs =
+      let start = c .before .before .before .before .before .before .before .before .before .before .before .before .before in
+      let loop = c .before .before .before .before .before .before .before .before .loop in
+      let split-at = c .before .before .before .before .before .before .split-at in
+      let if1 = c .before .before .before .before .before .if1 in
+      let parts = c .before .before .before .parts in
+      let cost = c .cost in
+      let e = start .pre .1 .1 in
+      let d = split-at .ensures .1 _ (e .entry .stands .in-bar .prepared) (e .entry .stands .length-in) .divides (if1 .taken) in
+      (omega (arith, cost .ensures .0), parted-low (d .rule) (parts .ensures _ (parts-entry e d (loop .inv .1 _ e .sound))))
+
+  pub loop-less : solve-lts.Need-loop-less calls (solve-at t) solve.Post Inv-loop μ-loop
+  loop-less c = search needs
+
+  pub loop-again : solve-lts.Need-loop-again calls (solve-at t) solve.Post Inv-loop μ-loop
+  loop-again c =
+      let loop = c .before .before .before .before .before .before .before .before .before .loop in
+      let loop-test = c .before .before .before .before .before .before .before .before .loop-test in
+      let split-at = c .before .before .before .before .before .before .before .split-at in
+      let if1 = c .before .before .before .before .before .before .if1 in
+      let parts = c .before .before .before .before .parts in (
+        omega (arith, loop-test .taken),
+        λ s e.
+            let prepared = e .entry .stands .in-bar .prepared in
+            let d = split-at .ensures .1 s prepared (e .entry .stands .length-in) .divides (if1 .taken) in
+            ruled-more s _ _ _ (loop .inv .1 s e) (prepared .good) d (e .inhabited) (c .before .cost .ensures .1 s prepared)
+            (parts .ensures s (parts-entry e d (loop .inv .1 s e .sound))) (c .relax .ensures),
+      )
+
+  pub loop-less-2 : solve-lts.Need-loop-less-2 calls (solve-at t) solve.Post Inv-loop μ-loop
+  loop-less-2 c = search needs
+
+  pub loop-again-2 : solve-lts.Need-loop-again-2 calls (solve-at t) solve.Post Inv-loop μ-loop
+  loop-again-2 c =
+      let loop = c .before .before .before .loop in
+      let loop-test = c .before .before .loop-test in
+      let split-at = c .before .split-at in
+      let if1 = c .if1 in (
+        omega (arith, loop-test .taken),
+        λ s e.
+            let t = e .entry .stands in
+            ruled-idle s _ _ _ (loop .inv .1 s e) (split-at .ensures .1 s (t .in-bar .prepared) (t .length-in) .idle (if1 .left)),
+      )
+
+  pub add-store : solve-lts.Need-add-store calls (solve-at t) solve.Post Inv-loop μ-loop
+  add-store c =
+      let start = c .before .before .before .before .before .before .before in
+      omega (arith, stands-bar (start .pre .1 .1 .entry .stands))
+
+  pub store-requires : solve-lts.Need-store-requires calls (solve-at t) solve.Post Inv-loop μ-loop
+  store-requires c κs =
+      let start = c .before .before .before .before .before .before .before in
+      let e = start .pre .1 .1 in
+      let p = c .before .before .loop .inv .1 _ e in
+      (solve-room e (p .sound), omega (arith, stands-bar (e .entry .stands)), ruled-low p)
+
+  pub same-length : solve-lts.Need-same-length calls (solve-at t) solve.Post Inv-loop μ-loop
+  same-length c =
+      let start = c .before .before .before .before .before .before .before .before .before .before in
+      let rule-count = c .before .before .before .before .before .before .before .rule-count in
+      let loop = c .before .before .before .before .before .loop in
+      let loop-test = c .before .before .before .before .loop-test in
+      let e = start .pre .1 .1 in
+      let all = rules-end e (rule-count .ensures) (loop .inv .0) (loop-test .left) in
+      let row = ruled-all (e .entry .stands .in-bar .prepared .good) (e .entry .few) all (loop .inv .1 _ e) in
+      solve-stored e row (c .before .before .store .ensures) .sound .size ∙ sym (e .entry .sound .size)
+
+  pub returns : solve-lts.Need-returns calls (solve-at t) solve.Post Inv-loop μ-loop
+  returns c =
+      let rule-count = c .before .before .before .before .before .before .before .rule-count in
+      let loop = c .before .before .before .before .before .loop in
+      let loop-test = c .before .before .before .before .loop-test in
+      λ s e.
+      let all = rules-end e (rule-count .ensures) (loop .inv .0) (loop-test .left) in
+      let row = ruled-all (e .entry .stands .in-bar .prepared .good) (e .entry .few) all (loop .inv .1 s e) in
+      solve-stored e row (c .before .before .store .ensures)

@@ -1,0 +1,12 @@
+pub mod Vectors
+pub mod VectorLaws
+pub mod Memo
+pub mod MemoLaws
+pub mod OnsetLaws
+pub mod Rows
+pub mod CellLaws
+pub mod NameLaws
+pub mod PartLaws
+pub mod TurnLaws
+pub mod LeafLaws
+pub mod CallLaws

@@ -1,0 +1,4 @@
+// The rows of the search's table: the least totals of an item from one carry state to each, looked up where the table has them and solved
+// where it has not.
+pub mod table;
+pub mod vector;

@@ -1,0 +1,51 @@
+// Vectors of four numbers, by carry state. NONE stands for "no tree": it is above every total, and two of them fit.
+ghost use mathlib.Core.Path.{_≡_};
+ghost use Prim.Native.Nat.{_+_, _≤_, min};
+ghost use lib.ListN.{getD};
+ghost use Rattle.derivations.specs.Minima.{lowest, only};
+ghost use Rattle.trees.specs.LeastTotal.{NONE};
+ghost use Rattle.rows.specs.Vectors.{vec, Low, lowered};
+
+pub const NONE: u64 = 72057594037927936;
+
+// The smaller of two numbers.
+pub fn least(a: u64, b: u64) -> u64
+    ensures { λ r. ⌜ r ≡ min a b ⌝ }
+{
+    if a < b { a } else { b }
+}
+
+// 0 at carry state c, and NONE at every other.
+pub fn only_at(c: usize) -> [u64; 4]
+    ensures { λ r. ⌜ r ≡ vec (only NONE c) ⌝ }
+{
+    let mut v = [NONE; 4];
+    if c < 4 {
+        v[c] = 0;
+    }
+    v
+}
+
+// The vector o, lowered where a more than y is less.
+pub fn relax(o: [u64; 4], a: u64, y: [u64; 4]) -> [u64; 4]
+    requires { ⌜ (a ≤ NONE) × Low y ⌝ }
+    ensures { λ r. ⌜ r ≡ lowered o a y ⌝ }
+{
+    [
+        least(o[0], a + y[0]),
+        least(o[1], a + y[1]),
+        least(o[2], a + y[2]),
+        least(o[3], a + y[3]),
+    ]
+}
+
+// The least of the sums of two vectors, or NONE.
+pub fn dot(y: [u64; 4], v: [u64; 4]) -> u64
+    requires { ⌜ Low y × Low v ⌝ }
+    ensures { λ r. ⌜ r ≡ lowest NONE (λ m. getD y m 0 + getD v m 0) 4 ⌝ }
+{
+    let a = least(NONE, y[0] + v[0]);
+    let b = least(a, y[1] + v[1]);
+    let c = least(b, y[2] + v[2]);
+    least(c, y[3] + v[3])
+}

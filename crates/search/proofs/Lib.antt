@@ -1,0 +1,7 @@
+mod RestSteps
+mod RuleSteps
+mod BuildSteps
+mod PartSteps
+mod BarSteps
+mod VectorSteps
+mod SearchSteps

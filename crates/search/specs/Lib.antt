@@ -1,0 +1,4 @@
+pub mod Rebuilding
+pub mod RebuildLaws
+pub mod RuleLaws
+pub mod Search
