@@ -1,5 +1,6 @@
 -- What the entries for C and Rust give of an outcome of reading.
 use Prim.Native.Nat.{ℕ, _+_, _*_}
+use mathlib.Core.Path.{_≡_}
 use mathlib.Core.List.{List, [], _∷_}
 use lib.ListN.{length, getD}
 use Rattle.sheet.specs.Sheet.{Onset}
@@ -7,6 +8,8 @@ use Rattle.sheet.specs.Reading.{Outcome, refused, accepted, numberIn, lineIn}
 use Rattle.pricing.specs.Pricing as pricing
 use Rattle.score.specs.Writing as writing
 use Rattle.sizes.specs.Sizes.{workCells, treeBytes}
+use Rattle.pricing.specs.declared.Priced.{Priced}
+use Rattle.finding.specs.Finding.{Finds}
 
 -- the number and the line of a refusal in one number; 0 for an accepted text
 abbrev pub checkOf : Outcome → ℕ
@@ -38,3 +41,13 @@ priceCells (pricing.priced nodes R D total) = 0 ∷ 0 ∷ nodes ∷ R ∷ D ∷ 
 abbrev pub writeCells : writing.Outcome → List ℕ
 writeCells (writing.refusal k n) = k ∷ n ∷ 0 ∷ []
 writeCells (writing.written text) = 0 ∷ 0 ∷ length text ∷ []
+
+-- the numbers of an answer, in its order
+abbrev pub answerCells : Priced → List ℕ
+answerCells r = r .number ∷ r .line ∷ r .nodes ∷ r .weight ∷ r .distance ∷ r .total ∷ []
+
+-- what finding gives, as numbers: an answer that meets its promise
+pub record FindCells (text tree treeAfter work workAfter cells : List ℕ) : Type 0 where
+  pub answer : Priced
+  pub finds : Finds text tree treeAfter work workAfter answer
+  pub numbers : cells ≡ answerCells answer

@@ -4,7 +4,7 @@ ghost use Rattle.sheet.specs.Reading.{readSheet};
 ghost use lib.ListN.{length};
 ghost use Rattle.pricing.specs.Pricing.{priceText};
 ghost use Rattle.score.specs.Writing.{writeText, scoreAfter};
-ghost use Rattle.cabi.specs.Entries.{checkOf, workOf, treeOf, unitAt, priceCells, writeCells};
+ghost use Rattle.cabi.specs.Entries.{checkOf, workOf, treeOf, unitAt, priceCells, writeCells, FindCells};
 
 // The number of a text's refusal times 65,536, plus its line; 0: the text is accepted.
 #[no_mangle]
@@ -87,5 +87,25 @@ pub extern "C" fn rhythm_write(text: &[u8], list: &[u8], score: &mut [u8], answe
 {
     let w = score::write(text, list, score);
     let cells = [w.number as u64, w.line as u64, w.bytes as u64];
+    *answer = cells;
+}
+
+// Finds a least tree of the sheet that a text means: refusal number, line, node count, R, D and total. The tree's bytes go to the front of
+// the tree slice; the required work cells are 0 after a tree and after 11; every other byte and cell is kept.
+#[no_mangle]
+pub extern "C" fn rhythm_find(text: &[u8], tree: &mut [u8], work: &mut [u64], answer: &mut [u64; 6])
+    ensures { λ _. ⌜
+        FindCells (now (text .entry)) (now (tree .entry)) (now (tree .exit)) (now (work .entry)) (now (work .exit)) (now (answer .exit))
+        ⌝ }
+{
+    let r = finding::find(text, tree, work);
+    let cells = [
+        r.number as u64,
+        r.line as u64,
+        r.nodes as u64,
+        r.weight,
+        r.distance,
+        r.total,
+    ];
     *answer = cells;
 }

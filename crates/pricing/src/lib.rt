@@ -140,7 +140,8 @@ fn read_row<'a>(
     Walk::Upto(next)
 }
 
-fn refused(number: u8, line: usize) -> Priced
+// A refusal's answer: its number and its line, and zeros elsewhere.
+pub fn refused(number: u8, line: usize) -> Priced
     ensures { λ r. ⌜ r ≡ pricedOf (refusal number line) ⌝ }
 {
     Priced {

@@ -4,7 +4,8 @@ use mathlib.Core.List.{List, [], _∷_, _++_}
 use Prim.Native.Nat.{ℕ, zero, suc, _+_, _≤_, _<_}
 use native.Mathlib.Nat.{suc-add, zero-add}
 use native.Mathlib.Omega.{arith}
-use lib.ListN.{length, drop, set}
+use lib.ListN.{length, take, drop, set}
+use lib.Seq.{take-append-seam, drop-append-seam}
 
 module _ {A : Type 0} where
   -- bs over the front of xs, as far as there is room; the cells behind bs are those of xs
@@ -38,6 +39,13 @@ module _ {A : Type 0} where
   over-drop [] xs h = refl
   over-drop (b ∷ bs) [] h = let f : ⊥ = omega arith in absurd f
   over-drop (b ∷ bs) (x ∷ xs) h = ap (λ (l : List A). b ∷ l) (over-drop bs xs (omega arith))
+
+  -- what was written, and what stands behind it
+  pub take-over : (bs xs : List A) → length bs ≤ length xs → take (length bs) (over bs xs) ≡ bs
+  take-over bs xs h = rw (over-drop bs xs h) (take-append-seam bs (drop (length bs) xs))
+
+  pub drop-over : (bs xs : List A) → length bs ≤ length xs → drop (length bs) (over bs xs) ≡ drop (length bs) xs
+  drop-over bs xs h = rw (over-drop bs xs h) (drop-append-seam bs (drop (length bs) xs))
 
   -- nothing written
   pub over-nil : (xs : List A) → over [] xs ≡ xs

@@ -1,0 +1,130 @@
+-- What each way out of `find_sheet` gives, by what the calls before it told. Assumes nothing.
+use Prim.Native.Nat.{ℕ, _≤_, _<_}
+use mathlib.Core.Path.{_≡_, refl, sym, ap, subst, _∙_}
+use mathlib.Core.List.{List}
+use native.Mathlib.Omega.{arith}
+use borrow.Author.Tests.{le-ltb}
+use lib.ListN.{length, take}
+use lib.Seq.{length-take-le}
+use Rattle.slices.specs.Over.{length-over, take-over}
+use Rattle.sheet.specs.declared.table.GrammarTable.{GrammarTable}
+use Rattle.sheet.specs.declared.table.PlayingTable.{PlayingTable}
+use Rattle.sheet.specs.declared.table.Reading.{Reading}
+use Rattle.sheet.specs.Sheet.{Sheet}
+use Rattle.sheet.specs.Reading.{readSheet}
+use Rattle.sheet.specs.Held.{grammarTable, playingTable, readingOf}
+use Rattle.sheet.specs.Good.{Good}
+use Rattle.sheet.specs.Accepted.{SheetHeld, AcceptedAs, refused-reading}
+use Rattle.sizes.specs.Sizes.{treeBytes, workCells}
+use Rattle.trees.specs.ValidTrees.{ValidTree}
+use Rattle.trees.specs.LeastTotal.{NONE, leastTotal}
+use Rattle.pricing.specs.declared.Priced.{Priced}
+use Rattle.pricing.specs.Pricing as pricing
+use Rattle.pricing.specs.Pricing.{priceSheet, pricedOf}
+use Rattle.pricing.specs.PricingLaws.{tree-priced}
+use Rattle.search.specs.declared.Found.the-variants.{NoTree, Tree}
+use Rattle.search.specs.Search.{SearchEntry, Searched}
+use Rattle.finding.specs.Finding.{hasTree, Outcome, refusal, findSheet, Gives, Finds}
+use Rattle.finding.specs.Outcomes.{work-short, tree-short, none-found, one-found, refused-found, sheet-found, gives}
+use Rattle.finding.specs.FindingLaws.{tree-fits, has-tree}
+
+-- what `work_cells` and `tree_bytes` tell
+abbrev CellsTold : GrammarTable → PlayingTable → ℕ → Type 0
+CellsTold g p n = (d : ℕ) (s : Sheet) → Good d s → g ≡ grammarTable (s .grammar) → p ≡ playingTable (s .playing) → n ≡ workCells s
+
+abbrev BytesTold : PlayingTable → ℕ → Type 0
+BytesTold p n = (s : Sheet) → p ≡ playingTable (s .playing) → n ≡ treeBytes s
+
+-- the counts are within the tables
+pub counts : {s : Sheet} {g : GrammarTable} {p : PlayingTable} → SheetHeld s g p → (g .count ≤ 64) × (p .count ≤ 512)
+unfolding grammarTable playingTable
+counts h = (rw (h .grammar) (h .good .rules .most), rw (h .playing) (h .good .onsets .most))
+
+module _ {s : Sheet} {g : GrammarTable} {p : PlayingTable} (h : SheetHeld s g p) (tree work : List ℕ) (cells : ℕ)
+    (told : CellsTold g p cells) where
+  required : cells ≡ workCells s
+  required = told (h .duration) s (h .good) (h .grammar) (h .playing)
+
+  pub short-work : length work < cells → (r : Priced) → r ≡ pricedOf (pricing.refusal 9 0)
+      → Gives (findSheet s (length tree) (length work)) tree tree work work r
+  short-work w r e =
+      gives _ _ (work-short s (length tree) (length work) (omega (arith, required))) (record { zeros = e; tree-kept = refl }, refl)
+
+  module _ (w : cells ≤ length work) (bytes : ℕ) (bytes-told : BytesTold p bytes) where
+    enough : workCells s ≤ length work
+    enough = omega (arith, required)
+
+    room-required : bytes ≡ treeBytes s
+    room-required = bytes-told s (h .playing)
+
+    pub short-tree : length tree < bytes → (r : Priced) → r ≡ pricedOf (pricing.refusal 10 0)
+        → Gives (findSheet s (length tree) (length work)) tree tree work work r
+    short-tree t r e =
+        gives _ _ (tree-short s (length tree) (length work) enough (omega (arith, room-required)))
+        (record { zeros = e; tree-kept = refl }, refl)
+
+    pub search-entry : bytes ≤ length tree → SearchEntry s g p tree work
+    search-entry t = record { held = h; tree-size = omega (arith, room-required); work-size = enough }
+
+-- what the search told
+module _ {s : Sheet} {g : GrammarTable} {p : PlayingTable} {tree work : List ℕ} (entry : SearchEntry s g p tree work) (after clear : List ℕ)
+  where
+    pub nothing-found : Searched s tree after work clear NoTree → (r : Priced) → r ≡ pricedOf (pricing.refusal 11 0)
+        → Gives (findSheet s (length tree) (length work)) tree after work clear r
+    unfolding hasTree
+    nothing-found f r e =
+        gives _ _ (none-found s (length tree) (length work) (entry .work-size) (entry .tree-size)
+        (le-ltb (leastTotal s) NONE (f .found .0)))
+        (record { zeros = e; tree-kept = f .found .1 }, f .clear)
+
+    module _ (n : ℕ) (f : Searched s tree after work clear (Tree n)) where
+      abbrev bs : List ℕ
+      bs = f .found .0
+
+      valid : ValidTree s bs
+      valid = f .found .3 .tree .valid .valid
+
+      fits : length bs ≤ length tree
+      fits = omega (arith, entry .tree-size, tree-fits s (entry .held .duration) (entry .held .good) bs valid)
+
+      pub nodes-fit : n ≤ length after
+      nodes-fit = omega (arith, fits, f .found .4, ap length (f .found .5), length-over bs tree)
+
+      pub front-size : n ≡ length (take n after)
+      front-size = sym (length-take-le n after nodes-fit)
+
+      front : take n after ≡ bs
+      front = ap (λ (m : ℕ). take m after) (f .found .4) ∙ ap (take (length bs)) (f .found .5) ∙ take-over bs tree fits
+
+      pub tree-found : (r : Priced) → r ≡ pricedOf (priceSheet s (take n after))
+          → Gives (findSheet s (length tree) (length work)) tree after work clear r
+      tree-found r e =
+          let least = f .found .3 .tree in
+          gives _ _ (one-found s (length tree) (length work) (entry .work-size) (entry .tree-size)
+          (has-tree s (entry .held .duration) (entry .held .good) bs valid)) (
+            record {
+              bytes = bs;
+              weight = f .found .1;
+              distance = f .found .2;
+              least = least;
+              figures = e ∙ ap (λ (l : List ℕ). pricedOf (priceSheet s l)) front ∙ ap pricedOf (tree-priced s bs _ _ (least .valid));
+              tree-written = f .found .5;
+            },
+            f .clear,
+          )
+
+-- ---- `find`
+
+-- a text that is refused
+pub text-refused : (text tree work : List ℕ) (r : Reading) → r ≡ readingOf (readSheet text) → (r .number ≡ 0 → ⊥) → (x : Priced)
+    → x ≡ pricedOf (pricing.refusal (r .number) (r .line)) → Finds text tree tree work work x
+text-refused text tree work r e k x q =
+    gives _ (refusal (r .number) (r .line)) (refused-found text _ _ (r .number) (r .line) (refused-reading text r e k))
+    (record { zeros = q; tree-kept = refl }, refl)
+
+-- a text that means a sheet
+pub text-found : (text tree treeAfter work workAfter : List ℕ) (g : GrammarTable) (p : PlayingTable) (x : Priced)
+    → ((s : Sheet) → SheetHeld s g p → Gives (findSheet s (length tree) (length work)) tree treeAfter work workAfter x)
+    → AcceptedAs text g p → Finds text tree treeAfter work workAfter x
+text-found text tree treeAfter work workAfter g p x f (d, s, e, h) =
+    subst (λ (o : Outcome). Gives o tree treeAfter work workAfter x) (sym (sheet-found text _ _ d s e)) (f s h)

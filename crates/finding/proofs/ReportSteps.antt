@@ -1,0 +1,149 @@
+-- What `refusal_line` composes, and what each way out of `report` gives, by what `find` and `write` told. Assumes nothing.
+use Prim.Native.Nat.{ℕ, _/_, _%_, _≤_, _<_}
+use mathlib.Core.Path.{_≡_, refl, sym, ap, subst, _∙_}
+use mathlib.Core.List.{List, [], _∷_}
+use native.Mathlib.Nat.{mod-eq-of-lt, div-lt-iff-lt-mul}
+use native.Mathlib.Decide.{decLe}
+use native.Mathlib.Omega.{arith}
+use borrow.Author.Tests.{le-leb, lt-leb}
+use lib.ListN.{length, take, replicate}
+use lib.Seq.{length-take-le}
+use Rattle.slices.specs.Over.{over, overFrom}
+use Rattle.hextext.specs.Written.{lineText, pairsOf, hasRoom, LineWritten}
+use Rattle.sheet.specs.Sheet.{Sheet}
+use Rattle.trees.specs.ValidTrees.{totalOf}
+use Rattle.trees.specs.Leaves.{entriesOf}
+use Rattle.pricing.specs.declared.Priced.{Priced}
+use Rattle.pricing.specs.PricingLaws.{tree-priced}
+use Rattle.score.specs.declared.Written.{Written}
+use Rattle.score.specs.Score.{bigEndian, scoreText}
+use Rattle.score.specs.Writing as writing
+use Rattle.score.specs.Writing.{written, noRoom, textWithin, writePriced, writeSheet, writeRead, writeText, writtenOf, scoreAfter}
+use Rattle.finding.specs.declared.Shown.{Shown}
+use Rattle.finding.specs.declared.Shown.the-variants.{Score, Line}
+use Rattle.finding.specs.Finding.{Outcome, refusal, noTree, found, findText, Gives, Finds}
+use Rattle.finding.specs.FindingLaws.{line-most, HandedBack, handed-back}
+use Rattle.finding.specs.Reporting.{refusalLine, Page, scorePage, refusalPage, pageWithin, Prints, Printed, Reports}
+use Rattle.finding.specs.ReportingLaws.{within-lines, within-short, prints}
+
+-- ---- `refusal_line`
+
+-- the two bytes of a line's number
+two-bytes : (n : ℕ) → n ≤ 16385 → bigEndian 2 n ≡ n / 256 ∷ n % 256 ∷ []
+unfolding bigEndian
+two-bytes n h =
+    let small : n / 256 < 256 = div-lt-iff-lt-mul {k = 256} {x = n} {y = 256} (omega arith) .1 (omega arith) in
+    ap (λ (b : ℕ). b ∷ n % 256 ∷ []) (mod-eq-of-lt small)
+
+-- a line of four bytes fills nine cells
+pub line-composed : (k n : ℕ) → n ≤ 16385 → (out : List ℕ) (r : ℕ)
+    → LineWritten (0x52 ∷ k ∷ n / 256 ∷ n % 256 ∷ []) 0 (replicate 9 0) out r → out ≡ refusalLine k n
+unfolding refusalLine hasRoom lineText pairsOf overFrom over
+line-composed k n h out r w = w .text ∙ sym (ap (λ (bs : List ℕ). lineText (0x52 ∷ k ∷ bs)) (two-bytes n h))
+
+-- ---- `report`
+
+module _ (text : List ℕ) {tree treeAfter work workAfter : List ℕ} {x : Priced} (f : Finds text tree treeAfter work workAfter x) where
+  pub line-small : x .line ≤ 16385
+  line-small = omega (arith, f .line, line-most text (length tree) (length work))
+
+  -- a refusal of finding
+  pub refusal-reported : (x .number ≡ 0 → ⊥) → (score line lineAfter : List ℕ) → lineAfter ≡ refusalLine (x .number) (x .line) → (r : Shown)
+      → r ≡ Line → Reports text tree treeAfter work workAfter score score line lineAfter r
+  refusal-reported nz score line lineAfter e r q = record { is = go (findText text (length tree) (length work)) f }
+    where
+      page : (k n : ℕ) → x .number ≡ k → x .line ≡ n → Prints (refusalPage k n) score score line lineAfter r
+      page k n a b = prints (refusalPage k n) tt q refl (rw (← a, ← b) e)
+
+      go : (o : Outcome) → Gives o tree treeAfter work workAfter x → Printed o tree treeAfter work workAfter score score line lineAfter r
+      go (refusal k n) g = (page k n (g .number) (g .line), g .result .0 .tree-kept, g .result .1)
+      go (noTree s) g = (page 11 0 (g .number) (g .line), g .result .0 .tree-kept, g .result .1)
+      go (found s) g = absurd (nz (g .number))
+
+  -- a tree
+  module _ (z : x .number ≡ 0) where
+    abbrev back : HandedBack text tree treeAfter work workAfter x
+    back = handed-back text f z
+
+    pub nodes-within : x .nodes ≤ length treeAfter
+    nodes-within = back .within
+
+    pub list-size : x .nodes ≡ length (take (x .nodes) treeAfter)
+    list-size = sym (length-take-le (x .nodes) treeAfter nodes-within)
+
+    abbrev s : Sheet
+    s = back .sheet
+
+    abbrev lines : List ℕ
+    lines =
+        scoreText (s .playing .bars) (x .weight) (x .distance) (totalOf s (x .weight) (x .distance))
+        (entriesOf s (take (x .nodes) treeAfter))
+
+    -- writing gives its score lines, or 13
+    wrote : (room : ℕ) → writeText text (take (x .nodes) treeAfter) room ≡ textWithin room lines
+    unfolding writeText writeSheet
+    wrote room =
+        ap (λ o. writeRead o (take (x .nodes) treeAfter) room) (back .read)
+        ∙ ap (writePriced s (take (x .nodes) treeAfter) room) (tree-priced s (take (x .nodes) treeAfter) _ _ (back .least .valid))
+
+    module _ (score scoreOut : List ℕ) (w : Written)
+        (told : (w ≡ writtenOf (writeText text (take (x .nodes) treeAfter) (length score)))
+        × (scoreOut ≡ scoreAfter (writeText text (take (x .nodes) treeAfter) (length score)) score)) where
+      abbrev room : ℕ
+      room = length score
+
+      -- by whether the slice has room
+      by-room : (P : writing.Outcome → Page → Type 0) → (length lines ≤ room → P (written lines) (scorePage lines))
+          → P noRoom (refusalPage 13 0) → P (writeText text (take (x .nodes) treeAfter) room) (pageWithin room lines)
+      unfolding textWithin
+      by-room P has short = elim (decLe (length lines) room) [
+        | yes h ↦ rw (wrote room, within-lines room lines h, le-leb (length lines) room h) (has h)
+        | no h ↦ let l : room < length lines = omega arith in rw (wrote room, within-short room lines l, lt-leb (length lines) room l) short
+      ]
+
+      pub written-line : w .line ≤ 16385
+      unfolding writtenOf
+      written-line =
+          omega (
+            arith,
+            ap (λ (v : Written). v .line) (told .0),
+            by-room (λ o p. writtenOf o .line ≤ 16385) (λ h. omega arith) (omega arith),
+          )
+
+      whole : (line lineAfter : List ℕ) (r : Shown) → Prints (pageWithin room lines) score scoreOut line lineAfter r
+          → Reports text tree treeAfter work workAfter score scoreOut line lineAfter r
+      whole line lineAfter r p = record {
+        is = subst (λ (o : Outcome). Printed o tree treeAfter work workAfter score scoreOut line lineAfter r) (sym (back .outcome)) (
+          record {
+            bytes = take (x .nodes) treeAfter;
+            weight = x .weight;
+            distance = x .distance;
+            least = back .least;
+            tree-written = back .written;
+            page = p;
+          },
+          back .clear,
+        );
+      }
+
+      -- the score slice is short
+      pub short-reported : (w .number ≡ 0 → ⊥) → (line lineAfter : List ℕ) → lineAfter ≡ refusalLine (w .number) (w .line) → (r : Shown)
+          → r ≡ Line → Reports text tree treeAfter work workAfter score scoreOut line lineAfter r
+      unfolding writtenOf scoreAfter
+      short-reported nz line lineAfter e r q =
+          whole line lineAfter r
+          (by-room (λ o p. w ≡ writtenOf o → scoreOut ≡ scoreAfter o score → Prints p score scoreOut line lineAfter r)
+          (λ h a b. absurd (nz (ap (λ (v : Written). v .number) a)))
+          (λ a b. prints (refusalPage 13 0) tt q b (e ∙ ap (λ (v : Written). refusalLine (v .number) (v .line)) a))
+          (told .0) (told .1))
+
+      -- the score lines
+      pub score-reported : w .number ≡ 0 → (line : List ℕ) (r : Shown) → r ≡ Score (w .bytes)
+          → Reports text tree treeAfter work workAfter score scoreOut line line r
+      unfolding writtenOf scoreAfter
+      score-reported zw line r q =
+          whole line line r
+          (by-room (λ o p. w ≡ writtenOf o → scoreOut ≡ scoreAfter o score → Prints p score scoreOut line line r)
+          (λ h a b. prints (scorePage lines) h (q ∙ ap (λ (v : Written). Score (v .bytes)) a) b refl)
+          (λ a b. let e : _≡_ {A = ℕ} 0 13 = sym zw ∙ ap (λ (v : Written). v .number) a in let f : ⊥ = omega arith in absurd f)
+          (told .0) (told .1))

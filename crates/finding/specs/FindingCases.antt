@@ -1,0 +1,212 @@
+-- The seven cases as a theorem about the contract itself: whatever meets `Finds` on the text, with slices of the required lengths or longer
+-- and of any content, gives the paper's values. Each of these sheets has at most one least tree, so the answer and both slices are given
+-- whole.
+--
+-- What document 01's reviewer will try, and the theorem that refutes it:
+-- 1. a finder that always says 11: `S-found` (its number is 0); for any sheet `FindingLaws.some-then-zero`;
+-- 2. the whole-bar leaf everywhere: `S-found` (the bytes are `010303`); for any sheet `FindingLaws.handed-back` (a valid tree, and least);
+-- 3. no bytes written and none reported: `S-found` (the node count is 3); for any sheet `FindingLaws.handed-back` with `no-bytes`;
+-- 4. an invented total: `FindingLaws.handed-back` (R, D and total are those of the bytes at the front of the tree slice);
+-- 5. "no tree" before looking: `FindingLaws.eleven-then-none`;
+-- 6. a pricer that says 12 to everything: `says-12-to-everything` in pricing's `Cases`;
+-- 7. a result or a slice unspoken for: `Finding.Result` gives the answer and both slices in each case, and `all-answered` shows that
+--    nothing but the choice among least trees is open.
+use Prim.Native.Nat.{ℕ, _≤_}
+use mathlib.Core.Path.{_≡_, refl, ap, subst, _∙_}
+use mathlib.Core.Bool.{Bool, true, _&&_, false≢true}
+use mathlib.Core.List.{List, [], _∷_, map, head-eq-of-cons-eq, tail-eq-of-cons-eq}
+use native.Mathlib.Omega.{arith}
+use borrow.Author.Tests.{eqb-true, le-leb}
+use lib.Dec.{eqb}
+use lib.ListN.{length, take, replicate}
+use Rattle.slices.specs.Every.{Every}
+use Rattle.slices.specs.Test.{and-both}
+use Rattle.slices.specs.Over.{over, take-over}
+use Rattle.sheet.specs.Sheet.{Sheet}
+use Rattle.sheet.specs.Reading.{Outcome, refused, accepted, readSheet}
+use Rattle.sheet.specs.Good.{Good}
+use Rattle.sheet.specs.GoodLaws.{good}
+use Rattle.sheet.specs.Cases.{S}
+use Rattle.sizes.specs.Sizes.{treeBytes, workCells}
+use Rattle.derivations.specs.Derivation.{Price}
+use Rattle.trees.specs.ValidTrees as trees
+use Rattle.trees.specs.ValidTrees.{bars, ValidTree, totalOf}
+use Rattle.trees.specs.Instance.{instanceOf, Derived}
+use Rattle.trees.specs.Laws.{lawful}
+use Rattle.trees.specs.OneReading.{one-price}
+use Rattle.trees.specs.Equivalence.{valid-derived}
+use Rattle.trees.specs.Found.{LeastTree, own-price}
+use Rattle.pricing.specs.declared.Priced.{Priced}
+use Rattle.pricing.specs.Pricing as pricing
+use Rattle.pricing.specs.Pricing.{refusal, priced, priceSheet, pricedOf}
+use Rattle.pricing.specs.PricingLaws.{price-own}
+use Rattle.finding.specs.Finding as finding
+use Rattle.finding.specs.Finding.{found, noTree, findSheet, cleared, FoundTree, Gives, Finds}
+use Rattle.finding.specs.Outcomes.{one-found, none-found, sheet-found}
+use Rattle.finding.specs.FindingLaws.{has-tree, has-none}
+use Rattle.finding.specs.EveryReading.{reading-passes}
+use Rattle.finding.specs.Cases.{Case, cases, same, alike, onlyTree, carriesOut, everyList, judgedTree, judged, holds}
+use Rattle.finding.specs.Cases.{all-computed}
+
+-- what is given of a case, and how the slices are left
+pub record Answered (c : Case) (tree treeAfter work workAfter : List ℕ) (answer : Priced) : Type 0 where
+  pub answer-is : answer ≡ pricedOf (c .gives)
+  pub tree-is : treeAfter ≡ over (c .bytes) tree
+  pub work-is : workAfter ≡ over (replicate (c .cells) 0) work
+
+-- by whatever meets the contract
+abbrev pub Answers : Case → Type 0
+Answers c =
+    (tree treeAfter work workAfter : List ℕ) (answer : Priced) → c .cells ≤ length work → c .room ≤ length tree
+    → Finds (c .text) tree treeAfter work workAfter answer → Answered c tree treeAfter work workAfter answer
+
+-- ---- what was computed means
+
+same-eq : (xs ys : List ℕ) → same xs ys ≡ true → xs ≡ ys
+unfolding same
+same-eq [] [] e = refl
+same-eq [] (y ∷ ys) e = absurd (false≢true e)
+same-eq (x ∷ xs) [] e = absurd (false≢true e)
+same-eq (x ∷ xs) (y ∷ ys) e =
+    let (h, t) = and-both (eqb x y) (same xs ys) e in
+    let a = eqb-true x y h in
+    let b = same-eq xs ys t in
+    λ i. a i ∷ b i
+
+alike-eq : (o o′ : pricing.Outcome) → alike o o′ ≡ true → o ≡ o′
+unfolding alike
+alike-eq (priced n R D t) (priced n′ R′ D′ t′) e =
+    let (a, x) = and-both (eqb n n′) _ e in
+    let (b, y) = and-both (eqb R R′) _ x in
+    let (c, d) = and-both (eqb D D′) (eqb t t′) y in
+    λ i. priced (eqb-true n n′ a i) (eqb-true R R′ b i) (eqb-true D D′ c i) (eqb-true t t′ d i)
+alike-eq (priced n R D t) (refusal k l) e = absurd (false≢true e)
+alike-eq (refusal k l) (priced n R D t) e = absurd (false≢true e)
+alike-eq (refusal k l) (refusal k′ l′) e =
+    let (a, b) = and-both (eqb k k′) (eqb l l′) e in λ i. refusal (eqb-true k k′ a i) (eqb-true l l′ b i)
+
+module _ (s : Sheet) where
+  abbrev owned : (R D : ℕ) → Price
+  owned R D = record { carry = 0; weight = R; distance = D }
+
+  -- a valid tree passes a test that every list passes
+  tested : (test : List ℕ → Price → Bool) → everyList s test ≡ true → (xs : List ℕ) (R D : ℕ) → trees.Priced s xs R D
+      → test xs (owned R D) ≡ true
+  unfolding everyList Derived
+  tested test e xs R D p = reading-passes (instanceOf s) (lawful s) 8 (bars s) 0 test e xs (owned R D) (valid-derived s xs R D p)
+
+  only-tree : (bs : List ℕ) (t : ℕ) → everyList s (onlyTree s bs t) ≡ true → (xs : List ℕ) (R D : ℕ) → trees.Priced s xs R D
+      → totalOf s R D ≤ t → xs ≡ bs
+  unfolding onlyTree
+  only-tree bs t e xs R D p h = same-eq xs bs (rw (le-leb (totalOf s R D) t h) at (tested (onlyTree s bs t) e xs R D p))
+
+  -- so a least tree is these bytes, with their R and D
+  pub one-least : (bs : List ℕ) (n R D t : ℕ) → everyList s (onlyTree s bs t) ≡ true → priceSheet s bs ≡ priced n R D t
+      → (xs : List ℕ) (R′ D′ : ℕ) → LeastTree s xs R′ D′ → (xs ≡ bs) × (R′ ≡ R) × (D′ ≡ D)
+  one-least bs n R D t all e xs R′ D′ l = go (price-own s bs n R D t e)
+    where
+      go : trees.Priced s bs R D × (n ≡ length bs) × (t ≡ totalOf s R D) → (xs ≡ bs) × (R′ ≡ R) × (D′ ≡ D)
+      go (p, en, et) =
+          let is : xs ≡ bs = only-tree bs t all xs R′ D′ (l .valid) (omega (arith, et, l .least bs R D p)) in
+          let (r, d) = one-price s bs R′ D′ R D (subst (λ (ys : List ℕ). trees.Priced s ys R′ D′) is (l .valid)) p in
+          (is, r, d)
+
+  no-tree : everyList s carriesOut ≡ true → (xs : List ℕ) → ValidTree s xs → ⊥
+  unfolding carriesOut
+  no-tree e xs v = let (R, D, p) = own-price s xs v in false≢true (tested carriesOut e xs R D p)
+
+-- ---- what finding gives of them
+
+-- the answer and the slices of a sheet
+pub record AnsweredSheet (s : Sheet) (o : pricing.Outcome) (bs tree treeAfter work workAfter : List ℕ) (answer : Priced) : Type 0 where
+  pub answer-so : answer ≡ pricedOf o
+  pub tree-so : treeAfter ≡ over bs tree
+  pub work-so : workAfter ≡ cleared s work
+
+-- the one least tree is the tree found
+is-found : (s : Sheet) (bs : List ℕ) (n R D t : ℕ) → everyList s (onlyTree s bs t) ≡ true → priceSheet s bs ≡ priced n R D t
+    → {tree treeAfter work workAfter : List ℕ} {answer : Priced} → FoundTree s tree treeAfter answer → workAfter ≡ cleared s work
+    → AnsweredSheet s (priced n R D t) bs tree treeAfter work workAfter answer
+is-found s bs n R D t all e {tree} {treeAfter} {work} {workAfter} {answer} g c =
+    go (one-least s bs n R D t all e (g .bytes) (g .weight) (g .distance) (g .least)) (price-own s bs n R D t e)
+  where
+    go : (g .bytes ≡ bs) × (g .weight ≡ R) × (g .distance ≡ D) → trees.Priced s bs R D × (n ≡ length bs) × (t ≡ totalOf s R D)
+        → AnsweredSheet s (priced n R D t) bs tree treeAfter work workAfter answer
+    go (eb, er, ed) (p, en, et) =
+        record {
+          answer-so = g .figures ∙ ap pricedOf (rw (eb, er, ed, en, et) refl);
+          tree-so = g .tree-written ∙ ap (λ (xs : List ℕ). over xs tree) eb;
+          work-so = c;
+        }
+
+module _ (text : List ℕ) (d : ℕ) (s : Sheet) (read : readSheet text ≡ accepted d s) {tree treeAfter work workAfter : List ℕ}
+    {answer : Priced} (w : workCells s ≤ length work) (room : treeBytes s ≤ length tree)
+    (f : Finds text tree treeAfter work workAfter answer) where
+  abbrev ok : Good d s
+  ok = good text d s read
+
+  -- the result, by what finding comes to
+  result-at : (o : finding.Outcome) → findSheet s (length tree) (length work) ≡ o → finding.Result o tree treeAfter work workAfter answer
+  result-at o e = subst (λ o. Gives o tree treeAfter work workAfter answer) (sheet-found text _ _ d s read ∙ e) f .result
+
+  -- there is one least tree
+  tree-answered : (bs : List ℕ) (n R D t : ℕ) → priceSheet s bs ≡ priced n R D t → everyList s (onlyTree s bs t) ≡ true
+      → AnsweredSheet s (priced n R D t) bs tree treeAfter work workAfter answer
+  tree-answered bs n R D t e all =
+      let r = result-at (found s) (one-found s _ _ w room (has-tree s d ok bs (price-own s bs n R D t e .0 .valid))) in
+      is-found s bs n R D t all e (r .0) (r .1)
+
+  -- there is none
+  none-answered : everyList s carriesOut ≡ true → AnsweredSheet s (refusal 11 0) [] tree treeAfter work workAfter answer
+  unfolding over
+  none-answered all =
+      let r = result-at (noTree s) (none-found s _ _ w room (has-none s d ok (no-tree s all))) in
+      record { answer-so = r .0 .zeros; tree-so = r .0 .tree-kept; work-so = r .1 }
+
+  sheet-answered : (o : pricing.Outcome) (bs : List ℕ) → judgedTree s o bs ≡ true
+      → AnsweredSheet s o bs tree treeAfter work workAfter answer
+  unfolding judgedTree
+  sheet-answered (priced n R D t) bs e =
+      let (a, b) = and-both (alike (priceSheet s bs) (priced n R D t)) _ e in tree-answered bs n R D t (alike-eq _ _ a) b
+  sheet-answered (refusal k n) bs e = go (and-both (alike (refusal k n) (refusal 11 0)) _ e)
+    where
+      go : (alike (refusal k n) (refusal 11 0) ≡ true) × ((same bs [] && everyList s carriesOut) ≡ true)
+          → AnsweredSheet s (refusal k n) bs tree treeAfter work workAfter answer
+      go (a, b) =
+          let (x, y) = and-both (same bs []) _ b in
+          rw (alike-eq (refusal k n) (refusal 11 0) a, same-eq bs [] x) (none-answered y)
+
+case-answered : (c : Case) → holds c ≡ true → Answers c
+unfolding holds judged
+case-answered c e tree treeAfter work workAfter answer w t f = go (readSheet (c .text)) refl e
+  where
+    go : (o : Outcome) → readSheet (c .text) ≡ o → judged o c ≡ true → Answered c tree treeAfter work workAfter answer
+    go (refused k n) r h = absurd (false≢true h)
+    go (accepted d s) r h =
+        let (a, x) = and-both (eqb (workCells s) (c .cells)) _ h in
+        let (b, y) = and-both (eqb (treeBytes s) (c .room)) _ x in
+        let cells = eqb-true (workCells s) (c .cells) a in
+        let bytes = eqb-true (treeBytes s) (c .room) b in
+        let g = sheet-answered (c .text) d s r (omega (arith, cells)) (omega (arith, bytes)) f (c .gives) (c .bytes) y in
+        record {
+          answer-is = g .answer-so;
+          tree-is = g .tree-so;
+          work-is = g .work-so ∙ ap (λ (n : ℕ). over (replicate n 0) work) cells;
+        }
+
+each : (cs : List Case) → map holds cs ≡ replicate (length cs) true → Every Answers cs
+each [] e = tt
+each (c ∷ cs) e = (case-answered c (head-eq-of-cons-eq e), each cs (tail-eq-of-cons-eq e))
+
+-- the seven
+pub all-answered : Every Answers cases
+all-answered = each cases all-computed
+
+-- S: number 0, line 0, three nodes, R 8, D 1,008, total 1,088, and `010303` at the front of the tree slice
+pub S-found : (tree treeAfter work workAfter : List ℕ) (answer : Priced) → 464 ≤ length work → 161 ≤ length tree
+    → Finds S tree treeAfter work workAfter answer
+    → (answer ≡ record { number = 0; line = 0; nodes = 3; weight = 8; distance = 1008; total = 1088 }) × (take 3 treeAfter ≡ 1 ∷ 3 ∷ 3 ∷ [])
+unfolding pricedOf
+S-found tree treeAfter work workAfter answer w t f =
+    let g = all-answered .0 tree treeAfter work workAfter answer w t f in
+    (g .answer-is, ap (take 3) (g .tree-is) ∙ take-over (1 ∷ 3 ∷ 3 ∷ []) tree (omega arith))

@@ -1,0 +1,226 @@
+-- What finding promises of valid trees, from `Finds` alone: demand 3 in its own words. With slices of the required lengths number 0 is
+-- given exactly when some list of bytes is a valid tree, and 11 exactly when no list of any length is; with a shorter slice or a refused
+-- text neither is. What is handed back is valid, its figures are its own, and no valid tree totals less.
+use Prim.Native.Nat.{ℕ, zero, suc, _≤_, _<_}
+use mathlib.Core.Path.{_≡_, refl, sym, ap, subst, _∙_}
+use mathlib.Core.Bool.{Bool, true, false, false≢true}
+use mathlib.Core.List.{List, []}
+use mathlib.Core.Logic.{_⊎_, inl, inr}
+use mathlib.Core.Option.{some, Option·none-ne-some}
+use native.Mathlib.Decide.{decLt}
+use native.Mathlib.Omega.{arith}
+use borrow.Author.Tests.{lt-ltb, ltb-true}
+use lib.ListN.{length, take, drop, replicate}
+use Rattle.slices.specs.Every.{Every, every-weaken}
+use Rattle.slices.specs.Over.{over, length-over, take-over, drop-over}
+use Rattle.sheet.specs.Sheet.{Sheet, barUnits}
+use Rattle.sheet.specs.Reading.{Outcome, refused, accepted, readSheet}
+use Rattle.sheet.specs.Good.{Good}
+use Rattle.sheet.specs.GoodLaws.{good}
+use Rattle.sheet.specs.Bounds.{refused-within}
+use Rattle.sizes.specs.Sizes.{treeBytes, workCells}
+use Rattle.derivations.specs.Derivation.{Price, derive}
+use Rattle.trees.specs.ValidTrees.{row, bars, ValidTree, totalOf}
+use Rattle.trees.specs.Instance.{instanceOf, Derived}
+use Rattle.trees.specs.Equivalence.{valid-derived}
+use Rattle.trees.specs.LeastTotal.{NONE, leastTotal}
+use Rattle.trees.specs.Found.{LeastTree, own-price, first-tree, least-total-below}
+use Rattle.trees.specs.Theorems.{valid-bytes, node-count, total-below}
+use Rattle.pricing.specs.declared.Priced.{Priced}
+use Rattle.pricing.specs.Pricing.{pricedOf}
+use Rattle.finding.specs.Finding as finding
+use Rattle.finding.specs.Finding.{hasTree, found, findSheet, findText, numberOf, lineOf, cleared, FoundTree, Gives, Finds}
+use Rattle.finding.specs.Numbers.{refused-most}
+use Rattle.finding.specs.Outcomes.{work-short, tree-short, none-found, one-found, by-lengths, refused-found}
+use Rattle.finding.specs.Outcomes.{sheet-found, by-text}
+
+-- ---- whether there is a tree
+
+module _ (s : Sheet) (d : ℕ) (ok : Good d s) where
+  -- a tree of the sheet fits a tree slice of the required length
+  pub tree-fits : (bs : List ℕ) → ValidTree s bs → length bs ≤ treeBytes s
+  unfolding treeBytes
+  tree-fits bs v = node-count s d ok bs v
+
+  -- where some list is a valid tree
+  pub has-tree : (bs : List ℕ) → ValidTree s bs → hasTree s ≡ true
+  unfolding hasTree
+  has-tree bs v =
+      let (R, D, p) = own-price s bs v in
+      lt-ltb (leastTotal s) NONE (omega (arith, least-total-below s (ok .rules) bs R D p, total-below s d ok bs R D p))
+
+  -- and nowhere else: it is one of bytes, and least
+  pub some-tree : hasTree s ≡ true
+      → (bs : List ℕ) × (R : ℕ) × (D : ℕ) × LeastTree s bs R D × Every (λ (b : ℕ). b < 256) bs
+  unfolding hasTree
+  some-tree e =
+      let (bs, R, D, f, same) = first-tree s (ok .rules) (ltb-true (leastTotal s) NONE e) in (
+        bs,
+        R,
+        D,
+        f .tree,
+        every-weaken _ _ (λ r h. omega (arith, h, ok .rules .most)) bs (valid-bytes s bs (f .tree .valid .valid)),
+      )
+
+  -- where no list of any length is one
+  pub has-none : ((bs : List ℕ) → ValidTree s bs → ⊥) → hasTree s ≡ false
+  has-none h = go (hasTree s) refl
+    where
+      go : (b : Bool) → hasTree s ≡ b → b ≡ false
+      go true e = let t = some-tree e in absurd (h (t .0) (t .3 .valid .valid))
+      go false e = refl
+
+  -- and nowhere else
+  pub no-valid-tree : hasTree s ≡ false → (bs : List ℕ) → ValidTree s bs → ⊥
+  no-valid-tree e bs v = false≢true (sym e ∙ has-tree bs v)
+
+  -- no byte is no tree
+  pub no-bytes : ValidTree s [] → ⊥
+  unfolding Derived derive bars
+  no-bytes v =
+      let (R, D, p) = own-price s [] v in
+      go (s .playing .bars) (ok .onsets .one) (valid-derived s [] R D p)
+    where
+      go : (b : ℕ) → 1 ≤ b → {p : Price} → derive (instanceOf s) [] (row 0 barUnits (replicate b (s .grammar .start))) 0 ≡ some p → ⊥
+      go zero h e = omega arith
+      go (suc b) h e = Option·none-ne-some _ e
+
+-- a line fits two bytes
+pub line-most : (text : List ℕ) (tree work : ℕ) → lineOf (findText text tree work) ≤ 16385
+line-most text tree work =
+    by-text text tree work (λ o. lineOf o ≤ 16385) (λ k n e. refused-within text k n e .1)
+    (λ d s e. by-lengths s tree work (λ o. lineOf o ≤ 16385)
+    (λ q. omega arith) (λ q. omega arith) (λ t q. omega arith) (λ t q. omega arith))
+
+-- ---- demand 3
+
+-- what number 0 tells
+pub record HandedBack (text tree treeAfter work workAfter : List ℕ) (answer : Priced) : Type 0 where
+  pub duration : ℕ
+  pub sheet : Sheet
+  pub read : readSheet text ≡ accepted duration sheet
+  pub outcome : findText text (length tree) (length work) ≡ found sheet
+  -- the tree handed back is the bytes at the front of the tree slice: a valid tree with the figures given, and none totals less
+  pub least : LeastTree sheet (take (answer .nodes) treeAfter) (answer .weight) (answer .distance)
+  pub total : answer .total ≡ totalOf sheet (answer .weight) (answer .distance)
+  pub within : answer .nodes ≤ length treeAfter
+  -- the bytes behind them are kept
+  pub written : treeAfter ≡ over (take (answer .nodes) treeAfter) tree
+  pub kept : drop (answer .nodes) treeAfter ≡ drop (answer .nodes) tree
+  pub clear : workAfter ≡ cleared sheet work
+
+module _ (text : List ℕ) {tree treeAfter work workAfter : List ℕ} {answer : Priced} where
+  from-tree : (d : ℕ) (s : Sheet) → readSheet text ≡ accepted d s → findText text (length tree) (length work) ≡ found s
+      → treeBytes s ≤ length tree → FoundTree s tree treeAfter answer → workAfter ≡ cleared s work
+      → HandedBack text tree treeAfter work workAfter answer
+  unfolding pricedOf
+  from-tree d s e o room t c =
+      record {
+        duration = d;
+        sheet = s;
+        read = e;
+        outcome = o;
+        least = rw (front, weight, distance) (t .least);
+        total = ap (λ (p : Priced). p .total) (t .figures) ∙ rw (weight, distance) refl;
+        within = omega (arith, nodes, fits, ap length (t .tree-written), length-over (t .bytes) tree);
+        written = t .tree-written ∙ ap (λ (bs : List ℕ). over bs tree) (sym front);
+        kept = rw (nodes, t .tree-written) (drop-over (t .bytes) tree fits);
+        clear = c;
+      }
+    where
+      nodes : answer .nodes ≡ length (t .bytes)
+      nodes = ap (λ (p : Priced). p .nodes) (t .figures)
+
+      weight : answer .weight ≡ t .weight
+      weight = ap (λ (p : Priced). p .weight) (t .figures)
+
+      distance : answer .distance ≡ t .distance
+      distance = ap (λ (p : Priced). p .distance) (t .figures)
+
+      fits : length (t .bytes) ≤ length tree
+      fits = omega (arith, room, tree-fits s d (good text d s e) (t .bytes) (t .least .valid .valid))
+
+      front : take (answer .nodes) treeAfter ≡ t .bytes
+      front = rw (nodes, t .tree-written) (take-over (t .bytes) tree fits)
+
+  module _ (f : Finds text tree treeAfter work workAfter answer) where
+    -- of a text that is refused the number is reading's; it is 1 to 8
+    pub refused-number : (k n : ℕ) → readSheet text ≡ refused k n → (answer .number ≡ k) × (1 ≤ k) × (k ≤ 8)
+    refused-number k n e =
+        (f .number ∙ ap numberOf (refused-found text _ _ k n e), refused-within text k n e .0, refused-most text k n e)
+
+    -- number 0: a tree is handed back
+    pub handed-back : answer .number ≡ 0 → HandedBack text tree treeAfter work workAfter answer
+    handed-back z = go (readSheet text) refl
+      where
+        go : (o : Outcome) → readSheet text ≡ o → HandedBack text tree treeAfter work workAfter answer
+        go (refused k n) e = let (q, one, most) = refused-number k n e in let f : ⊥ = omega arith in absurd f
+        go (accepted d s) e = by-lengths s (length tree) (length work) Back nine ten eleven tree-given at-sheet
+          where
+            to-sheet : findText text (length tree) (length work) ≡ findSheet s (length tree) (length work)
+            to-sheet = sheet-found text _ _ d s e
+
+            at-sheet : Gives (findSheet s (length tree) (length work)) tree treeAfter work workAfter answer
+            at-sheet = subst (λ o. Gives o tree treeAfter work workAfter answer) to-sheet f
+
+            Back : finding.Outcome → Type 0
+            Back o = Gives o tree treeAfter work workAfter answer → HandedBack text tree treeAfter work workAfter answer
+
+            nine : findSheet s (length tree) (length work) ≡ finding.refusal 9 0 → Back (finding.refusal 9 0)
+            nine q g = let f : ⊥ = omega (arith, g .number) in absurd f
+
+            ten : findSheet s (length tree) (length work) ≡ finding.refusal 10 0 → Back (finding.refusal 10 0)
+            ten q g = let f : ⊥ = omega (arith, g .number) in absurd f
+
+            eleven : treeBytes s ≤ length tree → findSheet s (length tree) (length work) ≡ finding.noTree s → Back (finding.noTree s)
+            eleven t q g = let f : ⊥ = omega (arith, g .number) in absurd f
+
+            tree-given : treeBytes s ≤ length tree → findSheet s (length tree) (length work) ≡ found s → Back (found s)
+            tree-given t q g = from-tree d s e (to-sheet ∙ q) t (g .result .0) (g .result .1)
+
+    -- a refused text: neither 0 nor 11
+    pub refused-neither : (k n : ℕ) → readSheet text ≡ refused k n → (answer .number ≡ 0 → ⊥) × (answer .number ≡ 11 → ⊥)
+    refused-neither k n e = let (q, one, most) = refused-number k n e in (λ z. omega arith, λ z. omega arith)
+
+    module _ (d : ℕ) (s : Sheet) (read : readSheet text ≡ accepted d s) where
+      abbrev ok : Good d s
+      ok = good text d s read
+
+      numbered : (o : finding.Outcome) → findSheet s (length tree) (length work) ≡ o → answer .number ≡ numberOf o
+      numbered o e = f .number ∙ ap numberOf (sheet-found text _ _ d s read ∙ e)
+
+      -- a slice that is shorter than required: neither
+      pub short-neither : (length work < workCells s) ⊎ (length tree < treeBytes s) → (answer .number ≡ 0 → ⊥) × (answer .number ≡ 11 → ⊥)
+      short-neither short = elim (decLt (length work) (workCells s)) [
+        | yes w ↦ let q = numbered _ (work-short s _ _ w) in (λ z. omega arith, λ z. omega arith)
+        | no w ↦ elim short [
+          | inl v ↦ let f : ⊥ = omega arith in absurd f
+          | inr t ↦ let q = numbered _ (tree-short s _ _ (omega arith) t) in (λ z. omega arith, λ z. omega arith)
+        ]
+      ]
+
+      -- slices of the required lengths
+      module _ (w : workCells s ≤ length work) (t : treeBytes s ≤ length tree) where
+        pub some-then-zero : (bs : List ℕ) → ValidTree s bs → answer .number ≡ 0
+        some-then-zero bs v = numbered _ (one-found s _ _ w t (has-tree s d ok bs v))
+
+        pub none-then-eleven : ((bs : List ℕ) → ValidTree s bs → ⊥) → answer .number ≡ 11
+        none-then-eleven h = numbered _ (none-found s _ _ w t (has-none s d ok h))
+
+        by-tree : (hasTree s ≡ true) ⊎ (hasTree s ≡ false)
+        by-tree = go (hasTree s) refl
+          where
+            go : (b : Bool) → hasTree s ≡ b → (hasTree s ≡ true) ⊎ (hasTree s ≡ false)
+            go true e = inl e
+            go false e = inr e
+
+        -- 0 only where some list of bytes is a valid tree
+        pub zero-then-some : answer .number ≡ 0 → (bs : List ℕ) × ValidTree s bs × Every (λ (b : ℕ). b < 256) bs
+        zero-then-some z = elim by-tree [
+          | inl e ↦ let x = some-tree s d ok e in (x .0, x .3 .valid .valid, x .4)
+          | inr e ↦ let q = numbered _ (none-found s _ _ w t e) in let f : ⊥ = omega arith in absurd f
+        ]
+
+        -- 11 only where no list, of any length, is one
+        pub eleven-then-none : answer .number ≡ 11 → (bs : List ℕ) → ValidTree s bs → ⊥
+        eleven-then-none z bs v = let q = some-then-zero bs v in omega arith

@@ -1,0 +1,10 @@
+pub mod Finding
+pub mod Outcomes
+pub mod FindingLaws
+pub mod Numbers
+pub mod Reporting
+pub mod ReportingLaws
+pub mod EveryReading
+pub mod Cases
+pub mod FindingCases
+pub mod ReportingCases

@@ -1,0 +1,87 @@
+-- The entry behind the program on document 01's sheet S: whatever meets `Reports` prints the three lines that "the program prints", or the
+-- line of refusal 13 where the score slice is short of them. And some lines of refusals, by computation.
+use Prim.Native.Nat.{ℕ, _≤_, _<_}
+use mathlib.Core.Path.{_≡_, refl, ap, subst, _∙_}
+use mathlib.Core.Bool.{true}
+use mathlib.Core.List.{List, [], _∷_}
+use mathlib.Core.Option.{Option·elim}
+use native.Mathlib.Omega.{arith}
+use lib.ListN.{length}
+use Rattle.hextext.specs.Written.{lineText}
+use Rattle.sheet.specs.Literal.{textOf}
+use Rattle.sheet.specs.Sheet.{inBar}
+use Rattle.sheet.specs.Cases.{S, sheetS, S-means}
+use Rattle.sizes.specs.Sizes.{treeBytes, workCells, lengthCount, mostInBar, largest}
+use Rattle.derivations.specs.Derivation.{onto}
+use Rattle.derivations.specs.Minima.{lowest}
+use Rattle.derivations.specs.Table.{via, forward}
+use Rattle.trees.specs.ValidTrees.{whose, inside, early, late, bars, placedFrom, distanceTo}
+use Rattle.trees.specs.LeastTotal.{leastTotal}
+use Rattle.trees.specs.Leaves.{leavesFrom, entriesOf}
+use Rattle.trees.specs.Found.{LeastTree}
+use Rattle.pricing.specs.Pricing.{priceSheet}
+use Rattle.score.specs.Score.{bigEndian, headLine, leafLine, leafLines, scoreText}
+use Rattle.score.specs.Cases.{linesOfS}
+use Rattle.finding.specs.declared.Shown.{Shown}
+use Rattle.finding.specs.Finding.{hasTree, Outcome, found, findText}
+use Rattle.finding.specs.Outcomes.{one-found, sheet-found}
+use Rattle.finding.specs.Cases.{onlyTree, everyList}
+use Rattle.finding.specs.FindingCases.{one-least}
+use Rattle.finding.specs.Reporting.{refusalLine, pageText, pageWithin, printed, PrintsTree, Printed, Reports}
+use Rattle.finding.specs.ReportingLaws.{within-lines, within-short}
+
+-- ---- lines of refusals
+
+pub refusal-lines : refusalLine 9 0 ∷ refusalLine 11 0 ∷ refusalLine 13 0 ∷ refusalLine 2 258 ∷ []
+    ≡ textOf "52090000\n" ∷ textOf "520B0000\n" ∷ textOf "520D0000\n" ∷ textOf "52020102\n" ∷ []
+unfolding refusalLine lineText bigEndian
+refusal-lines = refl
+
+-- ---- S
+
+S-cells : workCells sheetS ≡ 464
+unfolding workCells lengthCount mostInBar largest inBar
+S-cells = refl
+
+S-room : treeBytes sheetS ≡ 161
+unfolding treeBytes
+S-room = refl
+
+S-has-tree : hasTree sheetS ≡ true
+unfolding hasTree leastTotal whose distanceTo Option·elim lowest via forward onto
+S-has-tree = refl
+
+S-lines : scoreText 1 8 1008 1088 (entriesOf sheetS (1 ∷ 3 ∷ 3 ∷ [])) ≡ linesOfS
+unfolding scoreText headLine leafLines leafLine bigEndian lineText leavesFrom bars placedFrom early late inside whose
+S-lines = refl
+
+-- the least tree of S
+S-least : (bytes : List ℕ) (R D : ℕ) → LeastTree sheetS bytes R D → (bytes ≡ 1 ∷ 3 ∷ 3 ∷ []) × (R ≡ 8) × (D ≡ 1008)
+unfolding everyList onlyTree priceSheet onto whose distanceTo Option·elim
+S-least = one-least sheetS (1 ∷ 3 ∷ 3 ∷ []) 3 8 1008 1088 refl refl
+
+module _ (tree treeAfter work workAfter score scoreAfter line lineAfter : List ℕ) (shown : Shown) (w : 464 ≤ length work)
+    (t : 161 ≤ length tree) (r : Reports S tree treeAfter work workAfter score scoreAfter line lineAfter shown) where
+  S-outcome : findText S (length tree) (length work) ≡ found sheetS
+  S-outcome =
+      sheet-found S _ _ 2_000_000 sheetS S-means
+      ∙ one-found sheetS _ _ (omega (arith, S-cells)) (omega (arith, S-room)) S-has-tree
+
+  S-tree : PrintsTree sheetS tree treeAfter score scoreAfter line lineAfter shown
+  S-tree =
+      subst (λ (o : Outcome). Printed o tree treeAfter work workAfter score scoreAfter line lineAfter shown) S-outcome (r .is) .0
+
+  S-text : printed shown scoreAfter lineAfter ≡ pageText (pageWithin (length score) linesOfS)
+  S-text = go S-tree (S-least (S-tree .bytes) (S-tree .weight) (S-tree .distance) (S-tree .least))
+    where
+      go : (p : PrintsTree sheetS tree treeAfter score scoreAfter line lineAfter shown)
+          → (p .bytes ≡ 1 ∷ 3 ∷ 3 ∷ []) × (p .weight ≡ 8) × (p .distance ≡ 1008)
+          → printed shown scoreAfter lineAfter ≡ pageText (pageWithin (length score) linesOfS)
+      go p (eb, er, ed) = p .page .text ∙ rw (eb, er, ed, S-lines) refl
+
+  pub S-printed : 95 ≤ length score → printed shown scoreAfter lineAfter ≡ linesOfS
+  S-printed h = S-text ∙ ap pageText (within-lines (length score) linesOfS h)
+
+  pub S-refused : length score < 95 → printed shown scoreAfter lineAfter ≡ textOf "520D0000\n"
+  unfolding refusalLine lineText bigEndian
+  S-refused h = S-text ∙ ap pageText (within-short (length score) linesOfS h)

@@ -1,0 +1,97 @@
+-- What the entry behind the program prints, from `Reports` alone: the score lines of a least tree, or the line of a refusal.
+use Prim.Native.Nat.{ℕ, _≤_, _<_}
+use mathlib.Core.Path.{_≡_, refl, sym, ap, _∙_}
+use mathlib.Core.Bool.{true, false, false≢true}
+use mathlib.Core.List.{List, _∷_}
+use native.Mathlib.Decide.{decLe}
+use native.Mathlib.Omega.{arith}
+use borrow.Author.Tests.{le-leb, lt-leb}
+use lib.ListN.{length}
+use Rattle.hextext.specs.Laws.{length-line}
+use Rattle.score.specs.Score.{bigEndian}
+use Rattle.score.specs.ScoreLaws.{length-big-endian}
+use Rattle.slices.specs.Over.{length-over, take-over}
+use Rattle.finding.specs.declared.Shown.{Shown}
+use Rattle.finding.specs.declared.Shown.the-variants.{Score, Line}
+use Rattle.finding.specs.Finding.{Outcome, refusal, noTree, found, findText}
+use Rattle.finding.specs.Reporting.{refusalLine, Page, scorePage, refusalPage, pageText, shownOf, printed, scoreWith, lineWith}
+use Rattle.finding.specs.Reporting.{pageWithin, Prints, Printed, Reports}
+
+-- the line of a refusal has nine bytes
+pub refusal-line-bytes : (k n : ℕ) → length (refusalLine k n) ≡ 9
+unfolding refusalLine
+refusal-line-bytes k n = omega (arith, length-line (0x52 ∷ k ∷ bigEndian 2 n), length-big-endian 2 n)
+
+-- a text that the score slice has no room for is refused with 13
+pub within-lines : (room : ℕ) (text : List ℕ) → length text ≤ room → pageWithin room text ≡ scorePage text
+unfolding pageWithin
+within-lines room text h = rw (le-leb (length text) room h) refl
+
+pub within-short : (room : ℕ) (text : List ℕ) → room < length text → pageWithin room text ≡ refusalPage 13 0
+unfolding pageWithin
+within-short room text h = rw (lt-leb (length text) room h) refl
+
+-- a page whose score lines have room in the slice is what the answer stands for
+abbrev pub Fits : Page → (room : ℕ) → Type 0
+Fits (scorePage text) room = length text ≤ room
+Fits (refusalPage k n) room = Unit {0}
+
+pub prints : (page : Page) {score scoreAfter line lineAfter : List ℕ} {answer : Shown} → Fits page (length score) → answer ≡ shownOf page
+    → scoreAfter ≡ scoreWith page score → lineAfter ≡ lineWith page line → Prints page score scoreAfter line lineAfter answer
+prints page {score} {scoreAfter} {line} {lineAfter} {answer} h a s l =
+    record { text = is page h a s l; shown = a; score-is = s; line-is = l }
+  where
+    is : (page : Page) → Fits page (length score) → answer ≡ shownOf page → scoreAfter ≡ scoreWith page score
+        → lineAfter ≡ lineWith page line → printed answer scoreAfter lineAfter ≡ pageText page
+    is (scorePage text) h a s l = rw (a, s) (take-over text score h)
+    is (refusalPage k n) h a s l = rw (a, l) refl
+
+-- ---- what a program may print
+
+module _ {score scoreAfter line lineAfter : List ℕ} {answer : Shown} where
+  -- a line slice of 9 bytes stays one
+  nine : (page : Page) → Prints page score scoreAfter line lineAfter answer → length line ≡ 9 → length lineAfter ≡ 9
+  nine (scorePage text) p h = ap length (p .line-is) ∙ h
+  nine (refusalPage k n) p h = ap length (p .line-is) ∙ refusal-line-bytes k n
+
+  -- as many bytes as are shown stand in the score slice
+  fits : (page : Page) → Fits page (length score) → Prints page score scoreAfter line lineAfter answer → (n : ℕ) → answer ≡ Score n
+      → n ≤ length scoreAfter
+  fits (scorePage text) h p n e =
+      let same : length text ≡ n = score-bytes (sym (p .shown) ∙ e) in
+      omega (arith, same, h, ap length (p .score-is), length-over text score)
+    where
+      score-bytes : {a b : ℕ} → Score a ≡ Score b → a ≡ b
+      score-bytes e = cc
+  fits (refusalPage k m) h p n e = absurd (line-no-score (sym (p .shown) ∙ e))
+    where
+      line-no-score : {a : ℕ} → Line ≡ Score a → ⊥
+      line-no-score e = let f : false ≡ true = cc in false≢true f
+
+-- a page that is cut to a slice fits it
+within-fits : (room : ℕ) (text : List ℕ) → Fits (pageWithin room text) room
+within-fits room text = elim (decLe (length text) room) [
+  | yes h ↦ rw (within-lines room text h) h
+  | no h ↦ rw (within-short room text (omega arith)) tt
+]
+
+module _ {text tree treeAfter work workAfter score scoreAfter line lineAfter : List ℕ} {answer : Shown}
+    (r : Reports text tree treeAfter work workAfter score scoreAfter line lineAfter answer) where
+  abbrev Reported : Outcome → Type 0
+  Reported o = Printed o tree treeAfter work workAfter score scoreAfter line lineAfter answer
+
+  pub line-stays : length line ≡ 9 → length lineAfter ≡ 9
+  line-stays h = go (findText text (length tree) (length work)) (r .is)
+    where
+      go : (o : Outcome) → Reported o → length lineAfter ≡ 9
+      go (refusal k n) (p, t, w) = nine (refusalPage k n) p h
+      go (noTree s) (p, t, w) = nine (refusalPage 11 0) p h
+      go (found s) (p, w) = nine _ (p .page) h
+
+  pub score-fits : (n : ℕ) → answer ≡ Score n → n ≤ length scoreAfter
+  score-fits n e = go (findText text (length tree) (length work)) (r .is)
+    where
+      go : (o : Outcome) → Reported o → n ≤ length scoreAfter
+      go (refusal k m) (p, t, w) = fits (refusalPage k m) tt p n e
+      go (noTree s) (p, t, w) = fits (refusalPage 11 0) tt p n e
+      go (found s) (p, w) = fits _ (within-fits (length score) _) (p .page) n e

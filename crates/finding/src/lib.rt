@@ -1,0 +1,119 @@
+// Finding a least tree of the sheet that a text means, and the entry behind the program.
+ghost use mathlib.Core.Path.{_≡_};
+ghost use Prim.Native.Nat.{_≤_};
+ghost use lib.ListN.{length};
+ghost use Rattle.sheet.specs.Sheet.{Sheet};
+ghost use Rattle.sheet.specs.Accepted.{SheetHeld};
+ghost use Rattle.search.specs.Search.{SearchEntry};
+ghost use Rattle.finding.specs.Finding.{findSheet, Gives, Finds};
+ghost use Rattle.finding.specs.Reporting.{refusalLine, Reports};
+use pricing::Priced;
+use pricing::refused;
+use search::Found;
+use search::least_tree;
+use sheet::GrammarTable;
+use sheet::PlayingTable;
+
+// Finds a least tree with slices of the required lengths: 11 where there is no tree, and else what pricing the tree gives.
+fn find_least(
+    grammar: GrammarTable,
+    playing: PlayingTable,
+    tree: &mut [u8],
+    work: &mut [u64],
+) -> Priced
+    requires { ⌜ ((s : Sheet) × SearchEntry s grammar playing (now tree) (now work)) ⌝ }
+    ensures { λ r. ⌜ ((s : Sheet) → SearchEntry s grammar playing (now (tree .entry)) (now (work .entry))
+        → Gives (findSheet s (length (now (tree .entry))) (length (now (work .entry)))) (now (tree .entry)) (now (tree .exit))
+        (now (work .entry)) (now (work .exit)) r) ⌝ }
+{
+    let found = least_tree(grammar, playing, tree, work);
+    match found {
+        Found::NoTree => refused(11, 0),
+        Found::Tree { nodes } => pricing::price_sheet(grammar, playing, &tree[..nodes]),
+    }
+}
+
+// Finds a least tree of a sheet as it was read: 9 where the work slice is short, 10 where the tree slice is, 11 where there is no tree.
+pub fn find_sheet(
+    grammar: GrammarTable,
+    playing: PlayingTable,
+    tree: &mut [u8],
+    work: &mut [u64],
+) -> Priced
+    requires { ⌜ ((s : Sheet) × SheetHeld s grammar playing) ⌝ }
+    ensures { λ r. ⌜ ((s : Sheet) → SheetHeld s grammar playing
+        → Gives (findSheet s (length (now (tree .entry))) (length (now (work .entry)))) (now (tree .entry)) (now (tree .exit))
+        (now (work .entry)) (now (work .exit)) r) ⌝ }
+{
+    if work.len() < sizes::work_cells(grammar, playing) {
+        return refused(9, 0);
+    }
+    if tree.len() < sizes::tree_bytes(playing) {
+        return refused(10, 0);
+    }
+    find_least(grammar, playing, tree, work)
+}
+
+// Finds a least tree of the sheet that a text means: its bytes go to the front of the tree slice; its node count, R, D and total are given.
+// Reading's refusal comes first. The required work cells are 0 after a tree and after 11; every other cell and byte is kept.
+pub fn find(text: &[u8], tree: &mut [u8], work: &mut [u64]) -> Priced
+    ensures { λ r. ⌜ Finds (now (text .entry)) (now (tree .entry)) (now (tree .exit)) (now (work .entry)) (now (work .exit)) r ⌝ }
+{
+    let r = reading::read(text);
+    let number = r.number;
+    if number != 0 {
+        return refused(number, r.line);
+    }
+    let grammar = r.grammar;
+    let playing = r.playing;
+    find_sheet(grammar, playing, tree, work)
+}
+
+// Where the text to print stands: so many bytes at the front of the score slice, or the whole line slice.
+pub enum Shown {
+    Score { bytes: usize },
+    Line,
+}
+
+// The line of a refusal: `52`, its number, its line.
+fn refusal_line(number: u8, line: usize) -> [u8; 9]
+    requires { ⌜ line ≤ 16385 ⌝ }
+    ensures { λ r. ⌜ r ≡ refusalLine number line ⌝ }
+{
+    let bytes = [0x52, number, (line / 256) as u8, (line % 256) as u8];
+    let mut cells = [0u8; 9];
+    hextext::write_line(&bytes, &mut cells, 0);
+    cells
+}
+
+// Finds a least tree of the sheet that a text means and writes its score lines; or composes the line of a refusal, 13 where the score slice
+// is short. The answer says where the text to print stands.
+pub fn report(
+    text: &[u8],
+    work: &mut [u64],
+    tree: &mut [u8],
+    score: &mut [u8],
+    line: &mut [u8; 9],
+) -> Shown
+    ensures { λ r. ⌜ Reports (now (text .entry)) (now (tree .entry)) (now (tree .exit)) (now (work .entry)) (now (work .exit))
+        (now (score .entry)) (now (score .exit)) (now (line .entry)) (now (line .exit)) r ⌝ }
+{
+    let found = find(text, tree, work);
+    let number = found.number;
+    if number != 0 {
+        let cells = refusal_line(number, found.line);
+        *line = cells;
+        return Shown::Line;
+    }
+    let nodes = found.nodes;
+    let written = score::write(text, &tree[..nodes], score);
+    let short = written.number;
+    if short != 0 {
+        let cells = refusal_line(short, written.line);
+        *line = cells;
+        return Shown::Line;
+    }
+    Shown::Score {
+        bytes: written.bytes,
+    }
+}

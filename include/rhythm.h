@@ -1,0 +1,55 @@
+/* The rhythm parser's library, for C and C++. Link the static library cabi (`rt staticlib cabi`).
+
+   Every entry takes every text and every slice, of any length and content, checks the text itself, and returns. A text or a slice is a
+   pointer to its first element and the number of its elements; where that number is 0 the pointer is not read but must not be null. Slices
+   handed to one call must not overlap. Nothing is kept between calls, and calls on different slices may run side by side.
+
+   A sheet, its valid trees, R, D, totals, score lines and refusal numbers are those of document 01; docs/PROOF.md says where each promise
+   is stated and proved. A refusal gives its number and its line (0 where it has none), zeros elsewhere, and keeps every slice but the work
+   slice after refusal 11. */
+#ifndef RHYTHM_H
+#define RHYTHM_H
+
+#include <stddef.h>
+#include <stdint.h>
+
+#ifdef __cplusplus
+extern "C" {
+#endif
+
+/* The number of a text's refusal (1 to 8) times 65,536, plus its line; 0: the text is accepted. */
+uint32_t rhythm_check(const uint8_t *text, size_t text_length);
+
+/* The required length of the work slice of rhythm_find, in 64-bit cells; 0: the text is refused. */
+uint64_t rhythm_work_cells(const uint8_t *text, size_t text_length);
+
+/* The required length of the tree slice of rhythm_find, in bytes; 0: the text is refused. */
+uint64_t rhythm_tree_bytes(const uint8_t *text, size_t text_length);
+
+/* The unit of onset i, counted from the first bar; 0 past the last onset, and where the text is refused. */
+uint32_t rhythm_onset_unit(const uint8_t *text, size_t text_length, size_t i);
+
+/* Prices a list of bytes. answer: refusal number, line, node count, R, D, total. The number is 0 exactly when the list is a valid tree of
+   the sheet, and 12 exactly when the sheet is accepted and the list is none. */
+void rhythm_price(const uint8_t *text, size_t text_length, const uint8_t *list, size_t list_length, uint64_t answer[6]);
+
+/* Writes the score lines of a list of bytes from the front of the score slice. answer: refusal number, line, byte count. 13: the slice is
+   shorter than the exact text. Bytes behind the text are kept. */
+void rhythm_write(const uint8_t *text, size_t text_length, const uint8_t *list, size_t list_length, uint8_t *score, size_t score_length,
+                  uint64_t answer[3]);
+
+/* Finds a least tree. answer: refusal number, line, node count, R, D, total.
+
+   0: the first `node count` bytes of the tree slice are a valid tree, the figures are its own, and no valid tree of the sheet totals less.
+   Bytes behind them are kept. Of several least trees it is free which is given.
+   9, 10: the work slice, the tree slice is shorter than required. 11: no list of bytes, of any length, is a valid tree.
+   After 0 and 11 the required cells at the front of the work slice are 0; what they hold before the call does not matter. Cells behind them
+   are kept. */
+void rhythm_find(const uint8_t *text, size_t text_length, uint8_t *tree, size_t tree_length, uint64_t *work, size_t work_length,
+                 uint64_t answer[6]);
+
+#ifdef __cplusplus
+}
+#endif
+
+#endif
