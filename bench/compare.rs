@@ -1,49 +1,61 @@
 //! Compares the library with the peer on generated input, then times both on
 //! fixed input.
 //!
-//! Arguments, all optional: a part, `reading` or `pricing` (both without it),
-//! then a seed and a number of inputs for each part.
+//! Arguments, all optional: a part, `reading`, `pricing` or `finding` (all
+//! without it), then a seed and a number of inputs for each part.
 
+mod finding;
 mod harness;
 mod library;
 mod lists;
 mod pricing;
 mod reading;
+mod rules;
+mod search;
 mod sheets;
+mod takes;
 mod trees;
+mod tunes;
 
 use std::process::ExitCode;
 use trees::peer;
 
 const DEFAULT_SEED: u64 = 20_160;
-const DEFAULT_COUNT: usize = 20_000;
 
-/// Takes a seed and a number of inputs; gives whether all went well.
-type Part = fn(u64, usize) -> bool;
+/// A name, what takes a seed and a number of inputs and gives whether all went
+/// well, and the number of inputs unless one is given.
+type Part = (&'static str, fn(u64, usize) -> bool, usize);
+
+const PARTS: [Part; 3] = [
+    ("reading", reading::run, 20_000),
+    ("pricing", pricing::run, 20_000),
+    ("finding", finding::run, 200_000),
+];
 
 fn main() -> ExitCode {
     let given: Vec<String> = std::env::args().skip(1).collect();
     let Some((parts, seed, count)) = arguments(&given) else {
-        eprintln!("usage: compare [reading | pricing] [SEED [COUNT]]");
+        eprintln!("usage: compare [reading | pricing | finding] [SEED [COUNT]]");
         return ExitCode::from(2);
     };
-    if parts.iter().all(|part| part(seed, count)) {
+    let well = |(_, run, inputs): &Part| run(seed, count.unwrap_or(*inputs));
+    if parts.iter().all(well) {
         ExitCode::SUCCESS
     } else {
         ExitCode::FAILURE
     }
 }
 
-fn arguments(given: &[String]) -> Option<(Vec<Part>, u64, usize)> {
-    let (parts, numbers): (Vec<Part>, _) = match given.first().map(String::as_str) {
-        Some("reading") => (vec![reading::run], &given[1..]),
-        Some("pricing") => (vec![pricing::run], &given[1..]),
-        _ => (vec![reading::run, pricing::run], given),
+fn arguments(given: &[String]) -> Option<(Vec<Part>, u64, Option<usize>)> {
+    let named = |part: &&Part| given.first().is_some_and(|name| name == part.0);
+    let (parts, numbers) = match PARTS.iter().find(named) {
+        Some(part) => (vec![*part], &given[1..]),
+        None => (PARTS.to_vec(), given),
     };
     let (seed, count) = match numbers {
-        [] => (DEFAULT_SEED, DEFAULT_COUNT),
-        [seed] => (seed.parse().ok()?, DEFAULT_COUNT),
-        [seed, count] => (seed.parse().ok()?, count.parse().ok()?),
+        [] => (DEFAULT_SEED, None),
+        [seed] => (seed.parse().ok()?, None),
+        [seed, count] => (seed.parse().ok()?, Some(count.parse().ok()?)),
         _ => return None,
     };
     Some((parts, seed, count))

@@ -1,12 +1,17 @@
 //! What the comparisons share: telling a difference, counting outcomes and
 //! timing by turns.
 
+use crate::sheets::Dice;
 use std::fmt::Debug;
 use std::time::Instant;
 
 /// Many short runs: on a busy machine some of them are undisturbed.
 const TIMED_RUNS: usize = 300;
 const REPETITIONS: usize = 50;
+/// For works that take longer: rounds, in each of which every work has a turn of
+/// about so many nanoseconds.
+const ROUNDS: usize = 25;
+const TURN: f64 = 3e6;
 
 /// What was asked, and the two answers that should have been equal.
 pub struct Difference(pub String);
@@ -26,6 +31,13 @@ pub fn shown(text: &[u8]) -> String {
     lines
         .map(|line| format!("{}\n", line.escape_ascii()))
         .collect()
+}
+
+/// Bytes that stand in a slice before the call, other ones each time.
+pub fn dirt(dice: &mut Dice, length: usize) -> Vec<u8> {
+    let (first, step) = (dice.byte(), dice.byte());
+    let value = |at: usize| first.wrapping_add(step.wrapping_mul(at as u8));
+    (0..length).map(value).collect()
 }
 
 /// How often each number was given: 0 for an accepted call, or a refusal's.
@@ -92,17 +104,44 @@ pub fn best_by_turns(works: usize, mut work: impl FnMut(usize)) -> Vec<f64> {
     let mut best = vec![f64::INFINITY; works];
     for _ in 0..TIMED_RUNS {
         for (turn, best) in best.iter_mut().enumerate() {
-            *best = best.min(nanoseconds(|| work(turn)));
+            *best = best.min(nanoseconds(REPETITIONS, || work(turn)));
         }
     }
     best
 }
 
+pub fn how_timed_by_rounds() -> String {
+    format!("the median of {ROUNDS} rounds, in which library and peer take turns")
+}
+
+/// For each of several works its time in each round, in nanoseconds.
+pub fn times_by_rounds(works: usize, mut work: impl FnMut(usize)) -> Vec<Vec<f64>> {
+    let mut repetitions = Vec::new();
+    for turn in 0..works {
+        // The first time fills caches and claims memory.
+        work(turn);
+        let once = nanoseconds(1, || work(turn));
+        repetitions.push((TURN / once).clamp(1.0, 1_000.0) as usize);
+    }
+    let mut times = vec![Vec::new(); works];
+    for _ in 0..ROUNDS {
+        for (turn, times) in times.iter_mut().enumerate() {
+            times.push(nanoseconds(repetitions[turn], || work(turn)));
+        }
+    }
+    times
+}
+
+pub fn median(mut numbers: Vec<f64>) -> f64 {
+    numbers.sort_by(f64::total_cmp);
+    numbers[numbers.len() / 2]
+}
+
 /// One repetition's time in a run.
-fn nanoseconds(mut work: impl FnMut()) -> f64 {
+fn nanoseconds(repetitions: usize, mut work: impl FnMut()) -> f64 {
     let begun = Instant::now();
-    for _ in 0..REPETITIONS {
+    for _ in 0..repetitions {
         work();
     }
-    begun.elapsed().as_nanos() as f64 / REPETITIONS as f64
+    begun.elapsed().as_nanos() as f64 / repetitions as f64
 }

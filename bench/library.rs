@@ -22,6 +22,15 @@ extern "C" {
         score_len: usize,
         answer: *mut [u64; 3],
     );
+    fn rhythm_find(
+        text: *const u8,
+        text_len: usize,
+        tree: *mut u8,
+        tree_len: usize,
+        work: *mut u64,
+        work_len: usize,
+        answer: *mut [u64; 6],
+    );
 }
 
 /// What an answer holds before the call, so that a cell left alone is seen.
@@ -73,6 +82,23 @@ pub fn write(text: &[u8], list: &[u8], score: &mut [u8]) -> [u64; 3] {
             list.len(),
             score.as_mut_ptr(),
             score.len(),
+            &mut answer,
+        );
+    }
+    answer
+}
+
+/// Number, line, nodes, R, D and total.
+pub fn find(text: &[u8], tree: &mut [u8], work: &mut [u64]) -> [u64; 6] {
+    let mut answer = [UNWRITTEN; 6];
+    unsafe {
+        rhythm_find(
+            text.as_ptr(),
+            text.len(),
+            tree.as_mut_ptr(),
+            tree.len(),
+            work.as_mut_ptr(),
+            work.len(),
             &mut answer,
         );
     }

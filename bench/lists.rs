@@ -22,7 +22,7 @@ const LONG_LIST: usize = 100_000;
 
 // Sheets that most often have valid trees.
 
-fn sheet_text(dice: &mut Dice) -> Vec<u8> {
+pub fn sheet_text(dice: &mut Dice) -> Vec<u8> {
     let most_bars = dice.pick(&[1, 2, 4, 16, 64]);
     let bars = dice.between(1, most_bars);
     let most_onsets = if dice.one_in(8) { 20 } else { 4 };
@@ -67,7 +67,7 @@ fn grammar(dice: &mut Dice) -> Vec<Vec<u8>> {
     rules
 }
 
-fn leaf_of(dice: &mut Dice, head: usize, n: usize) -> Vec<u8> {
+pub fn leaf_of(dice: &mut Dice, head: usize, n: usize) -> Vec<u8> {
     vec![0x4C, head as u8, dice.byte(), dice.byte(), n as u8]
 }
 
@@ -88,7 +88,7 @@ fn plain_grammar(dice: &mut Dice, nonterminals: usize, arities: &[usize]) -> Vec
 }
 
 /// The text of a grammar and onsets at units, which are in order.
-fn played(
+pub fn played(
     dice: &mut Dice,
     mut lines: Vec<Vec<u8>>,
     bars: usize,
@@ -103,7 +103,7 @@ fn played(
 }
 
 /// Now and then such that a microsecond is a unit or a part of one.
-fn duration(dice: &mut Dice) -> usize {
+pub fn duration(dice: &mut Dice) -> usize {
     match dice.below(4) {
         0 => BAR_UNITS as usize,
         1 => 100 * BAR_UNITS as usize,
@@ -120,7 +120,7 @@ fn time_of(unit: usize, duration: usize) -> usize {
 }
 
 /// Units in order, at most 32 in a bar, now and then several at one place.
-fn units(dice: &mut Dice, bars: usize, count: usize) -> Vec<usize> {
+pub fn units(dice: &mut Dice, bars: usize, count: usize) -> Vec<usize> {
     let mut in_bar = vec![0; bars];
     let mut units = Vec::new();
     while units.len() < count {
@@ -154,14 +154,14 @@ fn near_a_bound(dice: &mut Dice, bars: usize) -> usize {
 }
 
 /// Some units of the bar with that left bound, in any order.
-type UnitsOfBar = fn(&mut Dice, usize) -> Vec<usize>;
+pub type UnitsOfBar = fn(&mut Dice, usize) -> Vec<usize>;
 
-fn eight_anywhere(dice: &mut Dice, left: usize) -> Vec<usize> {
+pub fn eight_anywhere(dice: &mut Dice, left: usize) -> Vec<usize> {
     let any = |_| left + dice.below(BAR_UNITS as usize);
     (0..8).map(any).collect()
 }
 
-fn units_by_bar(dice: &mut Dice, bars: usize, units_of_bar: UnitsOfBar) -> Vec<usize> {
+pub fn units_by_bar(dice: &mut Dice, bars: usize, units_of_bar: UnitsOfBar) -> Vec<usize> {
     let lefts = (0..bars).map(|bar| bar * BAR_UNITS as usize);
     let mut units: Vec<usize> = lefts.flat_map(|left| units_of_bar(dice, left)).collect();
     units.sort_unstable();

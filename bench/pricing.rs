@@ -1,7 +1,7 @@
 //! Compares the library's pricing of a list and writing of a score with the
 //! peer's on generated sheets and lists, then times both on two fixed trees.
 
-use crate::harness::{self, best_by_turns, same, Difference, Outcomes};
+use crate::harness::{self, best_by_turns, dirt, same, Difference, Outcomes};
 use crate::lists::{self, Case};
 use crate::sheets::Dice;
 use crate::trees::{self, Price};
@@ -153,13 +153,6 @@ fn compare_write(dice: &mut Dice, case: &Case, length: usize) -> Result<u64, Dif
         same(&asked, given[at], expected[at])?;
     }
     Ok(answer[0])
-}
-
-/// Bytes that stand in a slice before the call, other ones each time.
-fn dirt(dice: &mut Dice, length: usize) -> Vec<u8> {
-    let (first, step) = (dice.byte(), dice.byte());
-    let value = |at: usize| first.wrapping_add(step.wrapping_mul(at as u8));
-    (0..length).map(value).collect()
 }
 
 // Timing.

@@ -769,11 +769,26 @@ fn byte_changed(dice: &mut Dice) -> (Vec<u8>, Option<Outcome>) {
 /// Keeps the form, so that the later refusals are reached.
 fn digits_changed(dice: &mut Dice) -> (Vec<u8>, Option<Outcome>) {
     let mut text = draft(dice).text();
+    change_digits(dice, &mut text);
+    (text, None)
+}
+
+fn change_digits(dice: &mut Dice, text: &mut [u8]) {
     for _ in 0..dice.between(1, 3) {
-        let (at, _) = any_digit(dice, &text);
+        let (at, _) = any_digit(dice, text);
         text[at] = dice.digit();
     }
-    (text, None)
+}
+
+/// Damages the text of a valid sheet made elsewhere; gives what was done and
+/// the outcome it must have, if that is settled.
+pub fn damage(dice: &mut Dice, text: &mut Vec<u8>) -> (&'static str, Option<Outcome>) {
+    if dice.one_in(2) {
+        change_digits(dice, text);
+        return ("digits changed", None);
+    }
+    let (made, damage) = dice.pick(&FORM_DAMAGES);
+    (made, Some(damage(dice, text)))
 }
 
 fn random_bytes(dice: &mut Dice) -> (Vec<u8>, Option<Outcome>) {

@@ -5,7 +5,6 @@ use mathlib.Core.List.{List, [], _∷_}
 use lib.ListN.{length, getD}
 use Rattle.sheet.specs.Sheet.{Onset}
 use Rattle.sheet.specs.Reading.{Outcome, refused, accepted, numberIn, lineIn}
-use Rattle.pricing.specs.Pricing as pricing
 use Rattle.score.specs.Writing as writing
 use Rattle.sizes.specs.Sizes.{workCells, treeBytes}
 use Rattle.pricing.specs.declared.Priced.{Priced}
@@ -32,19 +31,14 @@ abbrev pub unitAt : Outcome → ℕ → ℕ
 unitAt (refused k n) i = 0
 unitAt (accepted d s) i = getD (s .playing .onsets) i noOnset .unit
 
--- the numbers of a price, in the order of the answer; zeros behind a refusal's number and line
-abbrev pub priceCells : pricing.Outcome → List ℕ
-priceCells (pricing.refusal k n) = k ∷ n ∷ 0 ∷ 0 ∷ 0 ∷ 0 ∷ []
-priceCells (pricing.priced nodes R D total) = 0 ∷ 0 ∷ nodes ∷ R ∷ D ∷ total ∷ []
+-- the numbers of an answer of pricing or of finding, in its order
+abbrev pub answerCells : Priced → List ℕ
+answerCells r = r .number ∷ r .line ∷ r .nodes ∷ r .weight ∷ r .distance ∷ r .total ∷ []
 
 -- the numbers of a score, in the order of the answer
 abbrev pub writeCells : writing.Outcome → List ℕ
 writeCells (writing.refusal k n) = k ∷ n ∷ 0 ∷ []
 writeCells (writing.written text) = 0 ∷ 0 ∷ length text ∷ []
-
--- the numbers of an answer, in its order
-abbrev pub answerCells : Priced → List ℕ
-answerCells r = r .number ∷ r .line ∷ r .nodes ∷ r .weight ∷ r .distance ∷ r .total ∷ []
 
 -- what finding gives, as numbers: an answer that meets its promise
 pub record FindCells (text tree treeAfter work workAfter cells : List ℕ) : Type 0 where

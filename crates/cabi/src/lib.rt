@@ -2,9 +2,10 @@
 ghost use mathlib.Core.Path.{_≡_};
 ghost use Rattle.sheet.specs.Reading.{readSheet};
 ghost use lib.ListN.{length};
-ghost use Rattle.pricing.specs.Pricing.{priceText};
+ghost use Rattle.pricing.specs.Pricing.{priceText, pricedOf};
 ghost use Rattle.score.specs.Writing.{writeText, scoreAfter};
-ghost use Rattle.cabi.specs.Entries.{checkOf, workOf, treeOf, unitAt, priceCells, writeCells, FindCells};
+ghost use Rattle.cabi.specs.Entries.{checkOf, workOf, treeOf, unitAt, answerCells, writeCells, FindCells};
+use pricing::Priced;
 
 // The number of a text's refusal times 65,536, plus its line; 0: the text is accepted.
 #[no_mangle]
@@ -58,20 +59,26 @@ pub extern "C" fn rhythm_onset_unit(text: &[u8], i: usize) -> u32
     unit.0
 }
 
-// Prices a list against the sheet that a text means: refusal number, line, node count, R, D and total.
-#[no_mangle]
-pub extern "C" fn rhythm_price(text: &[u8], list: &[u8], answer: &mut [u64; 6])
-    ensures { λ _. ⌜ now (answer .exit) ≡ priceCells (priceText (now (text .entry)) (now (list .entry))) ⌝ }
+// An answer as numbers: refusal number, line, node count, R, D and total.
+fn numbers(r: Priced) -> [u64; 6]
+    ensures { λ x. ⌜ x ≡ answerCells r ⌝ }
 {
-    let r = pricing::price(text, list);
-    let cells = [
+    [
         r.number as u64,
         r.line as u64,
         r.nodes as u64,
         r.weight,
         r.distance,
         r.total,
-    ];
+    ]
+}
+
+// Prices a list against the sheet that a text means.
+#[no_mangle]
+pub extern "C" fn rhythm_price(text: &[u8], list: &[u8], answer: &mut [u64; 6])
+    ensures { λ _. ⌜ now (answer .exit) ≡ answerCells (pricedOf (priceText (now (text .entry)) (now (list .entry)))) ⌝ }
+{
+    let cells = numbers(pricing::price(text, list));
     *answer = cells;
 }
 
@@ -90,22 +97,13 @@ pub extern "C" fn rhythm_write(text: &[u8], list: &[u8], score: &mut [u8], answe
     *answer = cells;
 }
 
-// Finds a least tree of the sheet that a text means: refusal number, line, node count, R, D and total. The tree's bytes go to the front of
-// the tree slice; the required work cells are 0 after a tree and after 11; every other byte and cell is kept.
+// Finds a least tree of the sheet that a text means. The tree's bytes go to the front of the tree slice; the required work cells are 0 after a tree and after 11; every other byte and cell is kept.
 #[no_mangle]
 pub extern "C" fn rhythm_find(text: &[u8], tree: &mut [u8], work: &mut [u64], answer: &mut [u64; 6])
     ensures { λ _. ⌜
         FindCells (now (text .entry)) (now (tree .entry)) (now (tree .exit)) (now (work .entry)) (now (work .exit)) (now (answer .exit))
         ⌝ }
 {
-    let r = finding::find(text, tree, work);
-    let cells = [
-        r.number as u64,
-        r.line as u64,
-        r.nodes as u64,
-        r.weight,
-        r.distance,
-        r.total,
-    ];
+    let cells = numbers(finding::find(text, tree, work));
     *answer = cells;
 }

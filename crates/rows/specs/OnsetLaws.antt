@@ -1,20 +1,17 @@
 -- The onsets by their places in the table of units: which are before a unit, and which is the first inside an interval.
-use Prim.Native.Nat.{ℕ, zero, suc, _+_, _-_, _*_, _%_, _≤_, _<_}
-use mathlib.Core.Path.{_≡_, refl, sym, ap, _∙_}
-use mathlib.Core.Bool.{Bool, true, false, cond}
+use Prim.Native.Nat.{ℕ, zero, suc, _+_, _-_, _*_, _≤_, _<_}
+use mathlib.Core.Path.{_≡_, sym, ap, _∙_}
 use mathlib.Core.List.{List, [], _∷_, _++_}
-use native.Mathlib.Nat.{mod-lt, div-add-mod'}
 use native.Mathlib.Decide.{decLt, ℕ-discrete}
 use native.Mathlib.Omega.{arith}
-use lib.Dec.{eqb}
-use borrow.Author.Tests.{eq-eqb}
 use lib.ListN.{length, drop, getD}
 use Rattle.slices.specs.Every.{Every}
-use Rattle.sheet.specs.Sheet.{Onset, Sheet, barUnits, barOf, inBar}
+use Rattle.sheet.specs.Sheet.{Onset, Sheet, barUnits, inBar}
 use Rattle.sheet.specs.Good.{GoodOnsets}
-use Rattle.trees.specs.ValidTrees.{whose, contains, inside}
+use Rattle.trees.specs.ValidTrees.{inside}
+use Rattle.trees.specs.LeafBounds.{in-bar-most}
 use Rattle.trees.specs.Instance.{onsetsIn}
-use Rattle.trees.specs.Onsets.{contains-bounds, inside-bounds}
+use Rattle.trees.specs.Onsets.{inside-bounds}
 use Rattle.sizes.specs.Sizes.{largest, mostInBar}
 use Rattle.expansions.specs.Tables.{UnitsHeld, lastUnit, unitCells}
 use Rattle.expansions.specs.Items.{firstAt}
@@ -68,25 +65,6 @@ module _ (s : Sheet) (good : GoodOnsets (s .playing)) where
       go n e = rw e (omega (arith, first-next s good u n))
 
 -- ---- the onsets of a bar
-
--- an interval of bar b has no more onsets than the bar
-in-bar-most : (l n b : ℕ) → b * barUnits ≤ l → l + n ≤ b * barUnits + barUnits → (os : List Onset)
-    → length (whose (contains l n) os) ≤ inBar b os
-unfolding whose inBar
-in-bar-most l n b h k [] = omega arith
-in-bar-most l n b h k (o ∷ os) = go (contains l n (o .unit)) refl (in-bar-most l n b h k os)
-  where
-    u : ℕ
-    u = o .unit
-
-    go : (t : Bool) → contains l n u ≡ t → length (whose (contains l n) os) ≤ inBar b os
-        → length (cond t (o ∷ whose (contains l n) os) (whose (contains l n) os)) ≤ cond (eqb (barOf u) b) 1 0 + inBar b os
-    go true e ih =
-        let bounds = contains-bounds l n u e in
-        let small : u % barUnits < barUnits = mod-lt u (omega arith) in
-        let there : barOf u ≡ b = omega (arith, bounds .0, bounds .1, small, div-add-mod' u barUnits) in
-        rw (eq-eqb (barOf u) b there) (omega arith)
-    go false e ih = omega arith
 
 largest-le : (f : ℕ → ℕ) (n i : ℕ) → i < n → f i ≤ largest f n
 unfolding largest

@@ -12,10 +12,10 @@ use Rattle.sheet.specs.declared.clock.Units.{Units}
 use Rattle.sheet.specs.Sheet.{leaf, Sheet}
 use Rattle.sheet.specs.Good.{GoodRules}
 use Rattle.derivations.specs.Derivation.{Item}
-use Rattle.derivations.specs.Minima.{lowest, lowest-cap, only, only-cap}
+use Rattle.derivations.specs.Minima.{lowest, lowest-cap}
 use Rattle.trees.specs.ValidTrees.{ruleAt, token, weightAt}
 use Rattle.trees.specs.Instance.{onsetsIn}
-use Rattle.trees.specs.LeastTotal.{NONE, cellOf}
+use Rattle.trees.specs.LeastTotal.{NONE}
 use Rattle.trees.specs.Onsets.{early-late, onsets-most, own-distance-most}
 use Rattle.expansions.specs.declared.Placed.{Placed}
 use Rattle.expansions.specs.Items.{interval, Here, Counts, PlacedAt}
@@ -23,20 +23,10 @@ use Rattle.plan.specs.declared.Split.{Split}
 use Rattle.plan.specs.Plan.{ruleCount, lengthAt, lengthCell, Divides, SplitAt, LeafRule}
 use Rattle.plan.specs.PlanLaws.{lengths-most, length-most}
 use Rattle.rows.specs.declared.table.Bar.{Bar}
-use Rattle.rows.specs.Vectors.{Low}
-use Rattle.rows.specs.VectorLaws.{low-eq}
-use Rattle.rows.specs.PartLaws.{forward-low}
 use Rattle.rows.specs.Rows.{itemAt, Sound, Entry, PartsEntry, partsAt, Parted}
 use Rattle.search.specs.Rebuilding.{at, behind, restTotal, RuleEntry, Totalled, ChooseEntry, Chosen}
 use Rattle.search.specs.RebuildLaws.{chosen-first, chosen-some}
 use Rattle.search.specs.RuleLaws.{leaf-many, leaf-totals, total-idle, total-empty, division-totals, division-forward}
-
--- no total over the parts passes the cap
-pub parted-low : {s : Sheet} {plan us rows : List ℕ} {bar : Bar} {r k l : ℕ} {left : Units} {from c : ℕ} {now y : List ℕ}
-    → PartsEntry s plan us rows bar r k l left from c → Parted s now r l left c y → Low y
-parted-low {s} {l = l} {left} {c = c} {y = y} e p =
-    low-eq y _ (p .is (e .q) (e .divides .weight) (e .divides .parts) (e .divides .rule))
-    (forward-low (cellOf s) (partsAt s l left (e .divides .parts)) (only NONE c) (only-cap NONE c))
 
 pub dot-most : (f : ℕ → ℕ) (d : ℕ) → d ≡ lowest NONE f 4 → d ≤ NONE
 dot-most f d e = rw e (lowest-cap NONE f 4)

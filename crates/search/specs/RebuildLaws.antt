@@ -25,9 +25,8 @@ use Rattle.trees.specs.Laws.{lawful}
 use Rattle.trees.specs.Found.{cells-least}
 use Rattle.trees.specs.Room.{room, room-pays}
 use Rattle.plan.specs.Plan.{ruleCount}
-use Rattle.rows.specs.Vectors.{vec, Low}
+use Rattle.rows.specs.Vectors.{vec}
 use Rattle.rows.specs.VectorLaws.{vec-at, low-eq}
-use Rattle.rows.specs.CellLaws.{cell-none}
 use Rattle.rows.specs.declared.table.Bar.{Bar}
 use Rattle.rows.specs.Rows.{Sound, Entry, Row}
 use Rattle.search.specs.declared.build.Built.{Built}
@@ -86,9 +85,6 @@ pub entry-of : {s : Sheet} {plan units rows : List ℕ} {bar : Bar} {q l : ℕ} 
     → BeforeEntry s plan units rows bar q l left from v → (now : List ℕ) (c : ℕ) → c < carries → Sound s now
     → Entry s plan units now bar q l left from c
 entry-of e now c few sound = record { stands = e .stands; few = few; sound = sound }
-
-pub row-low : {s : Sheet} {rows : List ℕ} {g : Item} {c : ℕ} {r : List ℕ} → Row s rows g c r → Low r
-row-low {s} {rows} {g} {c} {r} row = low-eq r (cellOf s g c) (row .is) (cell-none s g c)
 
 -- ---- the parts of a division
 

@@ -2,23 +2,20 @@
 // of the list, a line of pairs that says how it is run, and the sheet. How it is run: one byte that fills the score slice beforehand, two
 // bytes for the slice's length and four for the list's; where that is more than the list has, zeros follow.
 ghost use mathlib.Core.Path.{_≡_};
-ghost use Prim.Native.Nat.{_+_, _≤_, _<_, min};
+ghost use Prim.Native.Nat.{_≤_};
 ghost use lib.ListN.{length};
 use case_text::behind;
+use case_text::fill_from;
+use case_text::least;
 use case_text::place_of;
 use case_text::print;
+use case_text::wide;
 
 // How a case is run.
 struct Setting {
     fill: u8,
     room: usize,
     length: usize,
-}
-
-fn wide(b: u8) -> usize
-    ensures { λ r. ⌜ r < 256 ⌝ }
-{
-    b as usize
 }
 
 fn setting_of(bytes: [u8; 7]) -> Setting {
@@ -31,17 +28,6 @@ fn setting_of(bytes: [u8; 7]) -> Setting {
     }
 }
 
-// Stores b from place `at` of a slice on.
-fn fill_from(s: &mut [u8], at: usize, b: u8)
-    ensures { λ r. ⌜ length (now (s .exit)) ≡ length (now (s .entry)) ⌝ }
-{
-    let mut i = at;
-    while i < s.len() {
-        s[i] = b;
-        i += 1;
-    }
-}
-
 // The sum of the bytes from place `at` of a slice on.
 fn sum_from(s: &[u8], at: usize) -> usize {
     let mut sum: usize = 0;
@@ -51,12 +37,6 @@ fn sum_from(s: &[u8], at: usize) -> usize {
         i += 1;
     }
     sum
-}
-
-fn least(a: usize, b: usize) -> usize
-    ensures { λ r. ⌜ r ≡ min a b ⌝ }
-{
-    if a < b { a } else { b }
 }
 
 fn print_price(text: &[u8], list: &[u8]) {

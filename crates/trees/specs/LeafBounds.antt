@@ -43,11 +43,11 @@ pub record EntryBounds (s : Sheet) (e : Entry) : Type 0 where
 -- ---- onsets of an interval and of its bar
 
 -- an interval of bar b has no more onsets than the bar
-onsets-of-bar : (l n b : ℕ) → b * barUnits ≤ l → l + n ≤ b * barUnits + barUnits → (os : List Onset)
+pub in-bar-most : (l n b : ℕ) → b * barUnits ≤ l → l + n ≤ b * barUnits + barUnits → (os : List Onset)
     → length (whose (contains l n) os) ≤ inBar b os
 unfolding whose inBar
-onsets-of-bar l n b h k [] = omega arith
-onsets-of-bar l n b h k (o ∷ os) = go (contains l n (o .unit)) refl (onsets-of-bar l n b h k os)
+in-bar-most l n b h k [] = omega arith
+in-bar-most l n b h k (o ∷ os) = go (contains l n (o .unit)) refl (in-bar-most l n b h k os)
   where
     u : ℕ
     u = o .unit
@@ -112,7 +112,7 @@ module _ (s : Sheet) where
         omega (
           arith,
           early-late s l n,
-          onsets-of-bar l n (a .bar) (a .begins) (a .ends) (s .playing .onsets),
+          in-bar-most l n (a .bar) (a .begins) (a .ends) (s .playing .onsets),
           good .few (a .bar),
         )
 

@@ -1,8 +1,9 @@
 -- `rule_total` meets its contract, by what the rule is at the item: a leaf, a division, or not allowed. Assumes nothing.
 use mathlib.Core.Path.{refl, sym, _∙_}
 use native.Mathlib.Omega.{arith}
+use Rattle.rows.specs.PartLaws.{parted-low}
 use Rattle.search.proofs.RuleSteps.{rule-small, length-small, few-onsets, near-onsets, told-many, told-leaf, told-idle, told-empty}
-use Rattle.search.proofs.RuleSteps.{told-parts, told-division, parted-low, dot-most}
+use Rattle.search.proofs.RuleSteps.{told-parts, told-division, dot-most}
 use borrow.Author.Needs.{needs}
 use Rattle.search.proofs.build.rule_total.Statement.{statement}
 use Rattle.search.proofs.build.rule_total.Tie as tie
@@ -150,7 +151,7 @@ dot-requires c κs =
     let split = split-at .ensures .1 s prepared (h .entry .stands .length-in) in
     let entry = told-parts h (split-at .result) split (if3 .left) in
     let parted = parts .ensures s entry in
-    (parted-low entry parted, h .low)
+    (parted-low (entry .divides .rule) parted, h .low)
 
 add-result-3 : tie.Need-add-result-3
 add-result-3 c =

@@ -3,8 +3,8 @@ use borrow.Author.Needs.{needs}
 use Prim.Native.Nat.{_-_}
 use mathlib.Core.Path.{_≡_}
 use lib.ListN.{length}
-use Rattle.tree_cases.proofs.fill_from.Statement.{statement}
-use Rattle.tree_cases.proofs.fill_from.Tie as tie
+use Rattle.case_text.proofs.fill_from.Statement.{statement}
+use Rattle.case_text.proofs.fill_from.Tie as tie
 
 abbrev Inv-loop : tie.InvT-loop
 Inv-loop s₀ at b i₀ s i = length s ≡ length s₀

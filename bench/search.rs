@@ -1,0 +1,865 @@
+//! A second search for a least tree, written from document 01 alone, so that the
+//! library's can be compared with it and timed against it.
+//!
+//! A part of a bar begins at a multiple of its length, so its length and the
+//! first onset inside name it. Its row gives, for a nonterminal and a carry
+//! received, the least total by what is carried on. A bar's rows are filled from
+//! short parts to long ones, in three passes: which parts with onsets there can
+//! be, and the most that each receives (`survey`); rows of parts with one onset
+//! (`singles`); rows of parts with several (`groups`). Filling rows that no least
+//! tree needs, without asking, is faster than asking.
+
+use crate::peer::{Sheet, BAR_UNITS};
+use crate::rules::{Cost, Division, Grammar, Step, LENGTHS, MAX_ARITY, MAX_LATE, NONE};
+use std::arch::x86_64::{
+    __m128d, _mm_add_pd, _mm_add_sd, _mm_load_pd, _mm_min_pd, _mm_min_sd, _mm_set1_pd, _mm_set_pd,
+    _mm_set_sd, _mm_store_pd, _mm_unpackhi_pd,
+};
+
+const MAX_BARS: usize = 64;
+const MAX_BAR_ONSETS: usize = 32;
+const MAX_RULES: usize = 64;
+
+/// A row of a part with one onset, by the onsets carried on: none or it.
+#[derive(Clone, Copy)]
+#[repr(align(16))]
+struct Pair([Cost; 2]);
+
+/// A row, by the onsets carried on.
+#[derive(Clone, Copy)]
+#[repr(align(16))]
+struct Row([Cost; 4]);
+
+const NO_PAIR: Pair = Pair([NONE; 2]);
+const NO_ROW: Row = Row([NONE; 4]);
+/// By the onsets carried on: added to a cost, it gives the row of a leaf.
+const LEAF: [Row; 4] = [
+    Row([0.0, NONE, NONE, NONE]),
+    Row([NONE, 0.0, NONE, NONE]),
+    Row([NONE, NONE, 0.0, NONE]),
+    Row([NONE, NONE, NONE, 0.0]),
+];
+
+impl Row {
+    fn only(carry: usize, cost: Cost) -> Row {
+        let mut row = NO_ROW;
+        row.0[carry] = cost;
+        row
+    }
+
+    // A half is in the row, and aligned as the row is.
+
+    fn halves(&self) -> [__m128d; 2] {
+        unsafe { [_mm_load_pd(&self.0[0]), _mm_load_pd(&self.0[2])] }
+    }
+
+    fn set_halves(&mut self, [low, high]: [__m128d; 2]) {
+        unsafe {
+            _mm_store_pd(&mut self.0[0], low);
+            _mm_store_pd(&mut self.0[2], high);
+        }
+    }
+}
+
+#[inline(always)]
+fn least(one: Cost, other: Cost) -> Cost {
+    if one < other {
+        one
+    } else {
+        other
+    }
+}
+
+/// A part with several onsets.
+#[derive(Clone, Copy)]
+struct Group {
+    at: u8,
+    first: u8,
+    until: u8,
+    early: u8,
+    late: u8,
+    /// The most it receives.
+    carry: u8,
+    left: u32,
+    distance: u32,
+    /// Its first split: it has one for each step of its length.
+    splits: u32,
+}
+
+/// A part with onsets of a split group, or of a bar as its only part.
+#[derive(Clone, Copy)]
+struct Piece {
+    part: u8,
+    first: u8,
+    /// The most it carries on.
+    late: u8,
+    /// `ALONE` if it has one onset.
+    group: u16,
+}
+
+const ALONE: u16 = u16::MAX;
+
+/// How a bar is left with some carry: the carry it received, and where its tree
+/// stands among `trees`.
+#[derive(Clone, Copy, Default)]
+struct Choice {
+    carry: usize,
+    from: usize,
+    until: usize,
+}
+
+/// The peer's own memory, kept from call to call.
+#[derive(Default)]
+pub struct Search {
+    /// Of the bar's onsets, then one past every part.
+    offsets: Vec<u32>,
+    groups: Vec<Group>,
+    /// By length: which first onsets have a group, and by first onset which.
+    grouped: Vec<(u32, [u16; MAX_BAR_ONSETS])>,
+    /// Where the pieces of a split stand.
+    splits: Vec<(u32, u32)>,
+    pieces: Vec<Piece>,
+    /// By onset and carry: the lengths of parts where it is alone, a bit each.
+    alone: [[u128; 4]; MAX_BAR_ONSETS],
+    /// By onset, carry, length and nonterminal.
+    pairs: Vec<Pair>,
+    /// By group and nonterminal, then by carry.
+    rows: Vec<[Row; 4]>,
+    /// By division, then by carry.
+    walks: Vec<[Row; 4]>,
+    /// Of all bars, for each carry with which a bar can be left.
+    trees: Vec<u8>,
+    /// The bars of the tree found, the last first.
+    chosen: Vec<Choice>,
+}
+
+/// The places of bits, the lowest first.
+fn bits(mut set: u32) -> impl Iterator<Item = usize> {
+    std::iter::from_fn(move || {
+        let bit = set.trailing_zeros() as usize;
+        (set != 0).then(|| {
+            set &= set - 1;
+            bit
+        })
+    })
+}
+
+/// The parts of a bar.
+impl Search {
+    /// Notes all parts with onsets, of a bar that receives at most so many.
+    fn survey(&mut self, grammar: &Grammar, carry: u8) {
+        let count = self.offsets.len() - 1;
+        self.groups.clear();
+        self.splits.clear();
+        self.pieces.clear();
+        self.alone[..count].fill([0; 4]);
+        self.grouped.resize(LENGTHS, (0, [0; MAX_BAR_ONSETS]));
+        for grouped in &mut self.grouped[..grammar.reached.len()] {
+            grouped.0 = 0;
+        }
+        self.meet(grammar, 0, 0, (0, count), carry);
+        for at in 0..grammar.reached.len() {
+            for first in bits(self.grouped[at].0) {
+                self.split(grammar, self.grouped[at].1[first].into());
+            }
+        }
+    }
+
+    /// Notes a part with onsets; gives its group and the most it carries on.
+    #[inline(always)]
+    fn meet(
+        &mut self,
+        grammar: &Grammar,
+        at: usize,
+        left: u32,
+        (first, until): (usize, usize),
+        carry: u8,
+    ) -> (u16, u8) {
+        let length = grammar.reached[at].length;
+        if until == first + 1 {
+            let alone = &mut self.alone[first];
+            alone[0] |= grammar.reached[at].within;
+            for carry in 1..=usize::from(carry) {
+                alone[carry] |= 1 << at;
+            }
+            let late = 2 * (self.offsets[first] - left) >= length;
+            return (ALONE, late.into());
+        }
+        if self.grouped[at].0 >> first & 1 == 0 {
+            self.grouped[at].0 |= 1 << first;
+            self.grouped[at].1[first] = self.groups.len() as u16;
+            self.add_group(at, left, length, (first, until));
+        }
+        let index = self.grouped[at].1[first];
+        let group = &mut self.groups[usize::from(index)];
+        group.carry = group.carry.max(carry);
+        (index, group.late.min(MAX_LATE as u8))
+    }
+
+    fn add_group(&mut self, at: usize, left: u32, length: u32, (first, until): (usize, usize)) {
+        let (mut late, mut distance) = (0, 0);
+        for offset in &self.offsets[first..until] {
+            let (before, after) = (offset - left, left + length - offset);
+            late += u8::from(before >= after);
+            distance += before.min(after);
+        }
+        self.groups.push(Group {
+            at: at as u8,
+            first: first as u8,
+            until: until as u8,
+            early: (until - first) as u8 - late,
+            late,
+            carry: 0,
+            left,
+            distance,
+            splits: 0,
+        });
+    }
+
+    /// Notes the parts of a group, which are shorter.
+    fn split(&mut self, grammar: &Grammar, index: usize) {
+        let group = self.groups[index];
+        self.groups[index].splits = self.splits.len() as u32;
+        for step in grammar.steps(group.at.into()) {
+            let from = self.pieces.len() as u32;
+            let to = &grammar.reached[usize::from(step.to)];
+            let (mut first, mut next, mut carry) = (usize::from(group.first), 0, group.carry);
+            while first < usize::from(group.until) {
+                let part = to.part_of(self.offsets[first] - group.left);
+                let left = group.left + part * to.length;
+                let mut until = first + 1;
+                while self.offsets[until] < left + to.length {
+                    until += 1;
+                }
+                // An empty part before would have placed the carry.
+                let received = if part == next { carry } else { 0 };
+                let (index, late) =
+                    self.meet(grammar, step.to.into(), left, (first, until), received);
+                self.pieces.push(Piece {
+                    part: part as u8,
+                    first: first as u8,
+                    late,
+                    group: index,
+                });
+                (first, next, carry) = (until, part + 1, late);
+            }
+            self.splits.push((from, self.pieces.len() as u32));
+        }
+    }
+}
+
+/// Rows of parts with one onset.
+impl Search {
+    /// The place of the first pair of an onset and a carry.
+    #[inline(always)]
+    fn plane(&self, grammar: &Grammar, onset: usize, carry: usize) -> usize {
+        (onset * 4 + carry) * grammar.reached.len() * grammar.names
+    }
+
+    fn singles(&mut self, grammar: &Grammar) {
+        let count = self.offsets.len() - 1;
+        let pairs = self.plane(grammar, count, 0);
+        if self.pairs.len() < pairs {
+            self.pairs.resize(pairs, NO_PAIR);
+        }
+        let mut befores = [0; LENGTHS];
+        for onset in 0..count {
+            let offset = self.offsets[onset];
+            let mut lengths = self.alone[onset][0];
+            while lengths != 0 {
+                let at = 127 - lengths.leading_zeros() as usize;
+                lengths ^= 1 << at;
+                let reached = &grammar.reached[at];
+                befores[at] = offset - reached.part_of(offset) * reached.length;
+                self.single(grammar, onset, 0, at, befores[at]);
+            }
+            for carry in 1..=MAX_LATE {
+                let mut lengths = first_parts(grammar, &befores, self.alone[onset][carry]);
+                while lengths != 0 {
+                    let at = 127 - lengths.leading_zeros() as usize;
+                    lengths ^= 1 << at;
+                    self.single(grammar, onset, carry, at, befores[at]);
+                }
+            }
+        }
+    }
+
+    /// The pairs of a length, whose parts' pairs are filled.
+    #[inline(always)]
+    fn single(&mut self, grammar: &Grammar, onset: usize, carry: usize, at: usize, before: u32) {
+        let reached = &grammar.reached[at];
+        let after = reached.length - before;
+        let here = self.plane(grammar, onset, carry);
+        let base = here + at * grammar.names;
+        let early = usize::from(before < after);
+        let (placed, distance) = ((carry + early).min(MAX_LATE), Cost::from(before.min(after)));
+        let [leaf, _] = LEAF[1 - early].halves();
+        for name in bits(reached.names) {
+            let cost = grammar.leaf[name][placed] + distance;
+            let pair = &mut self.pairs[base + name];
+            // One store, which a load of the pair need not wait for.
+            unsafe { _mm_store_pd(pair.0.as_mut_ptr(), _mm_add_pd(leaf, _mm_set1_pd(cost))) };
+        }
+        for step in grammar.steps(at) {
+            let to = usize::from(step.to);
+            let part = grammar.reached[to].part_of(before) as usize;
+            let plane = if part == 0 {
+                here
+            } else {
+                self.plane(grammar, onset, 0)
+            };
+            let singles = grammar.singles_of(step, carry, part);
+            self.relax(
+                grammar,
+                base,
+                plane + to * grammar.names,
+                singles,
+                grammar.uses(step),
+            );
+        }
+    }
+
+    /// Lowers the pairs at a base by divisions over one onset.
+    #[inline(always)]
+    fn relax(&mut self, grammar: &Grammar, base: usize, below: usize, singles: usize, uses: &[u8]) {
+        for &at in uses {
+            // Names are below the number of nonterminals, for which each length
+            // has room, and each division has its singles.
+            unsafe {
+                let single = grammar
+                    .singles
+                    .get_unchecked(singles.wrapping_add(at.into()));
+                let pair = self.pairs.get_unchecked(below + usize::from(single.part));
+                let pair = _mm_load_pd(pair.0.as_ptr());
+                let straight = _mm_add_pd(pair, _mm_load_pd(single.straight.as_ptr()));
+                let late = _mm_unpackhi_pd(pair, pair);
+                let crossed = _mm_add_sd(late, _mm_set_sd(single.crossed));
+                let least = _mm_min_sd(straight, crossed);
+                let head = self
+                    .pairs
+                    .get_unchecked_mut(base + usize::from(single.head));
+                let lower = _mm_min_pd(_mm_load_pd(head.0.as_ptr()), least);
+                _mm_store_pd(head.0.as_mut_ptr(), lower);
+            }
+        }
+    }
+}
+
+/// Those of the lengths within where the part begins with the whole, since only
+/// there the carry is received again.
+fn first_parts(grammar: &Grammar, befores: &[u32; LENGTHS], mut wholes: u128) -> u128 {
+    let mut all = wholes;
+    while wholes != 0 {
+        let whole = wholes.trailing_zeros() as usize;
+        wholes &= wholes - 1;
+        let mut parts = grammar.reached[whole].within & !all;
+        while parts != 0 {
+            let part = parts.trailing_zeros() as usize;
+            parts &= parts - 1;
+            all |= u128::from(befores[part] == befores[whole]) << part;
+        }
+    }
+    all
+}
+
+/// Rows of parts with several onsets.
+impl Search {
+    fn groups(&mut self, grammar: &Grammar) {
+        let rows = self.groups.len() * grammar.names;
+        if self.rows.len() < rows {
+            self.rows.resize(rows, [NO_ROW; 4]);
+        }
+        self.walks.resize(MAX_RULES, [NO_ROW; 4]);
+        for at in (0..grammar.reached.len()).rev() {
+            for first in bits(self.grouped[at].0) {
+                self.group(grammar, self.grouped[at].1[first].into());
+            }
+        }
+    }
+
+    /// The rows of a group, whose parts' rows are filled.
+    fn group(&mut self, grammar: &Grammar, index: usize) {
+        let group = self.groups[index];
+        let (at, carries) = (usize::from(group.at), usize::from(group.carry) + 1);
+        let base = index * grammar.names;
+        let leaf = LEAF.get(usize::from(group.late)).unwrap_or(&NO_ROW);
+        for name in bits(grammar.reached[at].names) {
+            for (carry, row) in self.rows[base + name][..carries].iter_mut().enumerate() {
+                let placed = (carry + usize::from(group.early)).min(MAX_LATE);
+                let cost = grammar.leaf[name][placed] + Cost::from(group.distance);
+                let [low, high] = leaf.halves();
+                let cost = unsafe { _mm_set1_pd(cost) };
+                row.set_halves(unsafe { [_mm_add_pd(low, cost), _mm_add_pd(high, cost)] });
+            }
+        }
+        for (step, split) in grammar.steps(at).iter().zip(group.splits as usize..) {
+            let uses = grammar.uses(step);
+            self.walk(grammar, uses, step, split, carries);
+            for (&at, walk) in uses.iter().zip(&self.walks) {
+                let head = usize::from(grammar.divisions[usize::from(at)].head);
+                let rows = &mut self.rows[base + head];
+                for (row, walk) in rows.iter_mut().zip(walk).take(carries) {
+                    let ([low, high], [walk_low, walk_high]) = (row.halves(), walk.halves());
+                    row.set_halves(unsafe {
+                        [_mm_min_pd(low, walk_low), _mm_min_pd(high, walk_high)]
+                    });
+                }
+            }
+        }
+    }
+
+    /// Walks divisions over the parts of a split, all of them side by side. A part
+    /// is passed with a fixed number of carries, since a branch costs more than a
+    /// sum: rows of carries that there cannot be are of an earlier bar, but are
+    /// added to `NONE`.
+    fn walk(&mut self, grammar: &Grammar, uses: &[u8], step: &Step, split: usize, carries: usize) {
+        for (&at, walk) in uses.iter().zip(&mut self.walks) {
+            let cost = grammar.divisions[usize::from(at)].cost;
+            for (carry, row) in walk[..carries].iter_mut().enumerate() {
+                *row = Row::only(carry, cost);
+            }
+        }
+        let (from, until) = self.splits[split];
+        let (mut next, mut most) = (0, carries - 1);
+        for at in from..until {
+            let piece = self.pieces[at as usize];
+            let part = usize::from(piece.part);
+            if next < part {
+                self.pass_empty(grammar, uses, (next, part), carries);
+                most = 0;
+            }
+            match (piece.group, most) {
+                (ALONE, 0 | 1) => self.pass_single::<2>(grammar, uses, step, &piece, carries),
+                (ALONE, _) => self.pass_single::<4>(grammar, uses, step, &piece, carries),
+                (_, 0 | 1) => self.pass_group::<2>(grammar, uses, &piece, carries),
+                (_, _) => self.pass_group::<4>(grammar, uses, &piece, carries),
+            }
+            (next, most) = (part + 1, usize::from(piece.late));
+        }
+        if next < usize::from(step.arity) {
+            self.pass_empty(grammar, uses, (next, step.arity.into()), carries);
+        }
+    }
+
+    /// Passes parts without onsets: the first places the carry.
+    #[inline(always)]
+    fn pass_empty(
+        &mut self,
+        grammar: &Grammar,
+        uses: &[u8],
+        (from, until): (usize, usize),
+        carries: usize,
+    ) {
+        for (&at, walk) in uses.iter().zip(&mut self.walks) {
+            let division = &grammar.divisions[usize::from(at)];
+            let leaf = &grammar.leaf[usize::from(division.parts[from])];
+            let rest = division.empty(from + 1, until);
+            for row in &mut walk[..carries] {
+                let sums: [Cost; 4] = std::array::from_fn(|carry| row.0[carry] + leaf[carry]);
+                let cost = least(least(sums[0], sums[1]), least(sums[2], sums[3]));
+                row.set_halves(unsafe { [_mm_set_pd(NONE, cost + rest), _mm_set1_pd(NONE)] });
+            }
+        }
+    }
+
+    /// Passes a part with one onset.
+    #[inline(always)]
+    fn pass_single<const CARRIES: usize>(
+        &mut self,
+        grammar: &Grammar,
+        uses: &[u8],
+        step: &Step,
+        piece: &Piece,
+        carries: usize,
+    ) {
+        let plane = self.plane(grammar, piece.first.into(), 0);
+        let stride = self.plane(grammar, 0, 1);
+        let below = plane + usize::from(step.to) * grammar.names;
+        for (&at, walk) in uses.iter().zip(&mut self.walks) {
+            let division = &grammar.divisions[usize::from(at)];
+            let place = below + usize::from(division.parts[usize::from(piece.part)]);
+            for row in &mut walk[..carries] {
+                let [mut after, none] = NO_ROW.halves();
+                for carry in 0..CARRIES {
+                    // There are four planes for each onset.
+                    unsafe {
+                        let pair = self.pairs.get_unchecked(place + carry * stride);
+                        let ahead = _mm_set1_pd(row.0[carry]);
+                        let sum = _mm_add_pd(ahead, _mm_load_pd(pair.0.as_ptr()));
+                        after = _mm_min_pd(after, sum);
+                    }
+                }
+                row.set_halves([after, none]);
+            }
+        }
+    }
+
+    /// Passes a part with several onsets.
+    #[inline(always)]
+    fn pass_group<const CARRIES: usize>(
+        &mut self,
+        grammar: &Grammar,
+        uses: &[u8],
+        piece: &Piece,
+        carries: usize,
+    ) {
+        let base = usize::from(piece.group) * grammar.names;
+        for (&at, walk) in uses.iter().zip(&mut self.walks) {
+            let division = &grammar.divisions[usize::from(at)];
+            let rows = &self.rows[base + usize::from(division.parts[usize::from(piece.part)])];
+            for row in &mut walk[..carries] {
+                let [mut low, mut high] = NO_ROW.halves();
+                for (carry, part) in rows[..CARRIES].iter().enumerate() {
+                    let [part_low, part_high] = part.halves();
+                    unsafe {
+                        let ahead = _mm_set1_pd(row.0[carry]);
+                        low = _mm_min_pd(low, _mm_add_pd(ahead, part_low));
+                        high = _mm_min_pd(high, _mm_add_pd(ahead, part_high));
+                    }
+                }
+                row.set_halves([low, high]);
+            }
+        }
+    }
+}
+
+/// What a tree is wanted for: a nonterminal over a part, by carry received and
+/// carried on, and its total.
+#[derive(Clone, Copy)]
+struct Wanted {
+    name: usize,
+    at: usize,
+    carry: usize,
+    on: usize,
+    total: Cost,
+}
+
+/// A division over a part with several onsets.
+struct Over<'a> {
+    grammar: &'a Grammar,
+    division: &'a Division,
+    /// The length of its parts.
+    at: usize,
+    pieces: [Option<Piece>; MAX_ARITY],
+}
+
+/// Trees, from the rows.
+impl Search {
+    fn row(&self, grammar: &Grammar, name: usize, at: usize, piece: &Piece, carry: usize) -> Row {
+        if piece.group != ALONE {
+            return self.rows[usize::from(piece.group) * grammar.names + name][carry];
+        }
+        let plane = self.plane(grammar, piece.first.into(), carry);
+        let Pair([none, one]) = self.pairs[plane + at * grammar.names + name];
+        Row([none, one, NONE, NONE])
+    }
+
+    fn write(&mut self, grammar: &Grammar, piece: &Piece, wanted: Wanted) {
+        if piece.group == ALONE {
+            self.write_single(grammar, piece.first.into(), wanted);
+        } else {
+            self.write_group(grammar, piece.group.into(), wanted);
+        }
+    }
+
+    /// Writes the leaf if it has the total wanted.
+    fn write_leaf(
+        &mut self,
+        grammar: &Grammar,
+        wanted: Wanted,
+        (early, late): (usize, usize),
+        distance: u32,
+    ) -> bool {
+        let placed = (wanted.carry + early).min(MAX_LATE);
+        let total = grammar.leaf[wanted.name][placed] + Cost::from(distance);
+        let fits = late == wanted.on && total == wanted.total;
+        if fits {
+            self.trees.push(grammar.leaf_rule[wanted.name][placed]);
+        }
+        fits
+    }
+
+    fn write_single(&mut self, grammar: &Grammar, onset: usize, wanted: Wanted) {
+        let reached = &grammar.reached[wanted.at];
+        let offset = self.offsets[onset];
+        let before = offset - reached.part_of(offset) * reached.length;
+        let after = reached.length - before;
+        let early = usize::from(before < after);
+        if self.write_leaf(grammar, wanted, (early, 1 - early), before.min(after)) {
+            return;
+        }
+        for step in grammar.steps(wanted.at) {
+            let to = usize::from(step.to);
+            let part = grammar.reached[to].part_of(before) as usize;
+            let singles = grammar.singles_of(step, wanted.carry, part);
+            let carry = if part == 0 { wanted.carry } else { 0 };
+            let below = self.plane(grammar, onset, carry) + to * grammar.names;
+            for &at in grammar.uses(step) {
+                let single = &grammar.singles[singles.wrapping_add(at.into())];
+                let Pair(pair) = self.pairs[below + usize::from(single.part)];
+                let straight = pair[wanted.on] + single.straight[wanted.on] == wanted.total;
+                let crossed = wanted.on == 0 && pair[1] + single.crossed == wanted.total;
+                if usize::from(single.head) == wanted.name && (straight || crossed) {
+                    let on = if straight { wanted.on } else { 1 };
+                    let inner = Wanted {
+                        name: single.part.into(),
+                        at: to,
+                        carry,
+                        on,
+                        total: pair[on],
+                    };
+                    let division = &grammar.divisions[usize::from(at)];
+                    self.write_parts(grammar, division, (onset, part), wanted.carry, inner);
+                    return;
+                }
+            }
+        }
+        unreachable!("some rule has the total");
+    }
+
+    /// Writes a division over one onset, which is in some part.
+    fn write_parts(
+        &mut self,
+        grammar: &Grammar,
+        division: &Division,
+        (onset, inhabited): (usize, usize),
+        mut carry: usize,
+        inner: Wanted,
+    ) {
+        self.trees.push(division.rule);
+        for (part, &name) in division.parts[..division.arity.into()].iter().enumerate() {
+            if part == inhabited {
+                self.write_single(grammar, onset, inner);
+                carry = inner.on;
+            } else {
+                self.trees.push(grammar.leaf_rule[usize::from(name)][carry]);
+                carry = 0;
+            }
+        }
+    }
+
+    fn write_group(&mut self, grammar: &Grammar, index: usize, wanted: Wanted) {
+        let group = self.groups[index];
+        let counts = (group.early.into(), group.late.into());
+        if self.write_leaf(grammar, wanted, counts, group.distance) {
+            return;
+        }
+        for (step, split) in grammar.steps(wanted.at).iter().zip(group.splits as usize..) {
+            for &at in grammar.uses(step) {
+                let division = &grammar.divisions[usize::from(at)];
+                if usize::from(division.head) == wanted.name {
+                    let over = Over {
+                        grammar,
+                        division,
+                        at: step.to.into(),
+                        pieces: self.pieces_of(split),
+                    };
+                    if self.write_over(&over, wanted) {
+                        return;
+                    }
+                }
+            }
+        }
+        unreachable!("some rule has the total");
+    }
+
+    /// By part: the piece, if the part has onsets.
+    fn pieces_of(&self, split: usize) -> [Option<Piece>; MAX_ARITY] {
+        let (from, until) = self.splits[split];
+        let mut pieces = [None; MAX_ARITY];
+        for piece in &self.pieces[from as usize..until as usize] {
+            pieces[usize::from(piece.part)] = Some(*piece);
+        }
+        pieces
+    }
+
+    /// Writes the division over several onsets if it has the total.
+    fn write_over(&mut self, over: &Over, wanted: Wanted) -> bool {
+        let arity = usize::from(over.division.arity);
+        let mut walk = [NO_ROW; MAX_ARITY + 1];
+        walk[0] = Row::only(wanted.carry, over.division.cost);
+        for part in 0..arity {
+            walk[part + 1] = self.passed(over, part, &walk[part]);
+        }
+        if walk[arity].0[wanted.on] != wanted.total {
+            return false;
+        }
+        let mut parts = [wanted; MAX_ARITY];
+        let mut on = wanted.on;
+        for part in (0..arity).rev() {
+            parts[part] = self.wanted_of(over, part, &walk[part], walk[part + 1].0[on], on);
+            on = parts[part].carry;
+        }
+        self.trees.push(over.division.rule);
+        for (part, &wanted) in parts[..arity].iter().enumerate() {
+            match &over.pieces[part] {
+                Some(piece) => self.write(over.grammar, piece, wanted),
+                None => self
+                    .trees
+                    .push(over.grammar.leaf_rule[wanted.name][wanted.carry]),
+            }
+        }
+        true
+    }
+
+    /// The row of a part, with onsets or without.
+    fn part_row(&self, over: &Over, part: usize, carry: usize) -> Row {
+        let name = usize::from(over.division.parts[part]);
+        match &over.pieces[part] {
+            None => Row::only(0, over.grammar.leaf[name][carry]),
+            Some(piece) => self.row(over.grammar, name, over.at, piece, carry),
+        }
+    }
+
+    /// The least totals after a part, from those before it. Rows of carries that
+    /// there cannot be hold anything, but are added to `NONE`.
+    fn passed(&self, over: &Over, part: usize, ahead: &Row) -> Row {
+        let name = usize::from(over.division.parts[part]);
+        let Some(piece) = &over.pieces[part] else {
+            let leaf = &over.grammar.leaf[name];
+            let sums: [Cost; 4] = std::array::from_fn(|carry| ahead.0[carry] + leaf[carry]);
+            return Row::only(0, least(least(sums[0], sums[1]), least(sums[2], sums[3])));
+        };
+        let mut after = NO_ROW;
+        for carry in 0..4 {
+            let row = self.row(over.grammar, name, over.at, piece, carry);
+            for on in 0..4 {
+                after.0[on] = least(after.0[on], ahead.0[carry] + row.0[on]);
+            }
+        }
+        after
+    }
+
+    /// What is wanted of a part after which the total is `goal`.
+    fn wanted_of(&self, over: &Over, part: usize, ahead: &Row, goal: Cost, on: usize) -> Wanted {
+        let cell = |carry| self.part_row(over, part, carry).0[on];
+        let attains =
+            |&carry: &usize| ahead.0[carry] < NONE && ahead.0[carry] + cell(carry) == goal;
+        let carry = (0..4).find(attains).expect("some carry has the total");
+        Wanted {
+            name: over.division.parts[part].into(),
+            at: over.at,
+            carry,
+            on,
+            total: cell(carry),
+        }
+    }
+}
+
+/// Bar after bar.
+impl Search {
+    /// The least total, of which a tree is kept; `None` if there is no tree.
+    pub fn find(&mut self, sheet: &Sheet) -> Option<u64> {
+        let grammar = Grammar::new(sheet);
+        let bars = usize::from(sheet.bars);
+        let mut choices = [[Choice::default(); 4]; MAX_BARS];
+        self.chosen.clear();
+        let mut totals = Row::only(0, 0.0);
+        let mut onsets = &sheet.onsets[..];
+        self.trees.clear();
+        for (left, choices) in (0..).step_by(BAR_UNITS as usize).zip(&mut choices[..bars]) {
+            let inside = onsets.iter().take_while(|onset| onset.0 < left + BAR_UNITS);
+            let (inside, rest) = onsets.split_at(inside.count());
+            onsets = rest;
+            self.offsets.clear();
+            self.offsets
+                .extend(inside.iter().map(|onset| onset.0 - left));
+            self.offsets.push(u32::MAX);
+            totals = self.bar(&grammar, &totals, choices);
+        }
+        if totals.0[0] >= NONE {
+            return None;
+        }
+        self.choose(&choices[..bars]);
+        Some(totals.0[0] as u64)
+    }
+
+    /// The least totals after a bar, by carry, from those before it.
+    fn bar(&mut self, grammar: &Grammar, totals: &Row, choices: &mut [Choice; 4]) -> Row {
+        let count = self.offsets.len() - 1;
+        let possible = |carry: &usize| totals.0[*carry] < NONE;
+        let most = (0..4).rev().find(possible).unwrap_or(0);
+        if count > 0 {
+            self.survey(grammar, most as u8);
+            self.singles(grammar);
+            self.groups(grammar);
+        }
+        let mut after = NO_ROW;
+        let mut cells = [0.0; 4];
+        for carry in (0..4).filter(possible) {
+            let row = self.whole_row(grammar, carry);
+            for on in 0..4 {
+                if totals.0[carry] + row.0[on] < after.0[on] {
+                    after.0[on] = totals.0[carry] + row.0[on];
+                    (choices[on].carry, cells[on]) = (carry, row.0[on]);
+                }
+            }
+        }
+        // Such a carry is of no use, and neither are its tree and rows after it.
+        for on in 1..4 {
+            if after.0[0] + grammar.without[on] <= after.0[on] {
+                after.0[on] = NONE;
+            }
+        }
+        for on in (0..4).filter(|&on| after.0[on] < NONE) {
+            choices[on].from = self.trees.len();
+            self.write_whole(grammar, choices[on].carry, on, cells[on]);
+            choices[on].until = self.trees.len();
+        }
+        after
+    }
+
+    fn whole(&self) -> Piece {
+        let several = self.offsets.len() > 2;
+        Piece {
+            part: 0,
+            first: 0,
+            late: 0,
+            group: if several { 0 } else { ALONE },
+        }
+    }
+
+    fn whole_row(&self, grammar: &Grammar, carry: usize) -> Row {
+        let name = grammar.start;
+        match self.offsets.len() {
+            1 => Row::only(0, grammar.leaf[name][carry]),
+            _ => self.row(grammar, name, 0, &self.whole(), carry),
+        }
+    }
+
+    fn write_whole(&mut self, grammar: &Grammar, carry: usize, on: usize, total: Cost) {
+        let (name, at) = (grammar.start, 0);
+        if self.offsets.len() == 1 {
+            self.trees.push(grammar.leaf_rule[name][carry]);
+        } else {
+            let wanted = Wanted {
+                name,
+                at,
+                carry,
+                on,
+                total,
+            };
+            self.write(grammar, &self.whole(), wanted);
+        }
+    }
+
+    /// The trees of the bars that end with nothing carried on, the last first.
+    fn choose(&mut self, choices: &[[Choice; 4]]) {
+        let mut on = 0;
+        for choices in choices.iter().rev() {
+            self.chosen.push(choices[on]);
+            on = choices[on].carry;
+        }
+    }
+
+    /// Writes the tree found from the front of a slice; gives its node count.
+    pub fn write_tree(&self, tree: &mut [u8]) -> usize {
+        let mut nodes = 0;
+        for choice in self.chosen.iter().rev() {
+            let bar = &self.trees[choice.from..choice.until];
+            tree[nodes..nodes + bar.len()].copy_from_slice(bar);
+            nodes += bar.len();
+        }
+        nodes
+    }
+}

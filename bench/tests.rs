@@ -1,0 +1,14 @@
+//! The peer's own tests, without the library: `bench/run tests`.
+
+// The tests use only some of the files' functions.
+#![allow(dead_code)]
+
+mod listing;
+mod lists;
+mod rules;
+mod search;
+mod sheets;
+mod takes;
+mod trees;
+
+use trees::peer;

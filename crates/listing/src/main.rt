@@ -1,0 +1,216 @@
+// Compares finding with a search by listing all trees, on small sheets that are read from standard input. Every valid tree of a sheet is
+// made by expanding every item with every rule, in document 01's words and with nothing taken from the search; each is priced. Printed:
+// the number of trees, the least total, and whether finding gives one of the trees with that total, or 11 where there is none.
+ghost use mathlib.Core.Path.{_≡_};
+ghost use lib.ListN.{length};
+use case_text::behind;
+use case_text::least;
+use case_text::place_of;
+use case_text::wide;
+use expansions::pack_rules;
+use expansions::pack_units;
+use expansions::unpacked;
+use items::Place;
+use items::is_allowed;
+use items::move_at;
+use items::next_item;
+use items::place_behind;
+use pricing::Priced;
+use sheet::Reading;
+use sheet::Units;
+
+mod items;
+
+// What the listing has come to: the number of trees, the least total, the total of the tree that finding gave, where it was met, and how
+// many lists went wrong: they were refused by pricing, or longer than any tree. Where there is no total yet it is NONE.
+struct Tally {
+    trees: u64,
+    least: u64,
+    own: u64,
+    wrong: u64,
+}
+
+const NONE: u64 = 18446744073709551615;
+
+fn one_more(n: u64) -> u64 {
+    if n < NONE {
+        return n + 1;
+    }
+    n
+}
+
+fn gone_wrong(t: Tally) -> Tally {
+    Tally {
+        trees: t.trees,
+        least: t.least,
+        own: t.own,
+        wrong: one_more(t.wrong),
+    }
+}
+
+fn same(a: &[u8], b: &[u8]) -> bool {
+    if a.len() != b.len() {
+        return false;
+    }
+    let mut i: usize = 0;
+    while i < a.len() {
+        if a[i] != b[i] {
+            return false;
+        }
+        i += 1;
+    }
+    true
+}
+
+// A list that leaves no item: it is a tree where nothing is carried out.
+fn with_list(text: &[u8], found: &[u8], list: &[u8], carried: u8, t: Tally) -> Tally {
+    if carried != 0 {
+        return t;
+    }
+    let p = pricing::price(text, list);
+    if p.number != 0 {
+        return gone_wrong(t);
+    }
+    let total = p.total;
+    let lowest = if total < t.least { total } else { t.least };
+    let own = if same(found, list) { total } else { t.own };
+    Tally {
+        trees: one_more(t.trees),
+        least: lowest,
+        own,
+        wrong: t.wrong,
+    }
+}
+
+// Adds every tree that begins with the first `nodes` bytes of the list, which leave p to be derived.
+fn explore<'a>(
+    text: &'a [u8],
+    rules: &'a [u64; 64],
+    children: &'a [u8; 512],
+    units: &'a [u32; 513],
+    found: &'a [u8],
+    list: &mut [u8],
+    nodes: usize,
+    p: Place,
+    t: Tally,
+) -> Tally
+    ensures { λ r. ⌜ length (now (list .exit)) ≡ length (now (list .entry)) ⌝ }
+{
+    if list.len() < nodes {
+        return gone_wrong(t);
+    }
+    if p.items == 0 {
+        return with_list(text, found, &list[..nodes], p.carried, t);
+    }
+    if list.len() == nodes {
+        return gone_wrong(t);
+    }
+    let next = nodes + 1;
+    let item = next_item(p);
+    let mut tally = t;
+    let mut r: usize = 0;
+    while r < 64 {
+        let i = r;
+        r += 1;
+        let m = move_at(units, unpacked(rules[i]), item, p.carried);
+        if is_allowed(m) {
+            list[nodes] = i as u8;
+            let q = place_behind(children, i, m, item, p);
+            let more = explore(text, rules, children, units, found, list, next, q, tally);
+            tally = more;
+        }
+    }
+    tally
+}
+
+// Every tree of a sheet as it was read.
+fn list_all<'a>(text: &'a [u8], sheet: Reading, found: &'a [u8], list: &mut [u8]) -> Tally {
+    let none = Tally {
+        trees: 0,
+        least: NONE,
+        own: NONE,
+        wrong: 0,
+    };
+    let grammar = sheet.grammar;
+    let playing = sheet.playing;
+    if sheet.number != 0 {
+        return none;
+    }
+    if 512 < playing.count {
+        return none; // no accepted sheet has so many
+    }
+    let rules = pack_rules(grammar);
+    let units = pack_units(playing);
+    let children = grammar.children;
+    let bars = Place {
+        names: [grammar.start; 134],
+        lens: [20160; 134],
+        items: wide(playing.bars),
+        left: Units(0),
+        carried: 0,
+    };
+    explore(text, &rules, &children, &units, found, list, 0, bars, none)
+}
+
+// Whether finding gave what listing comes to.
+fn agree(t: Tally, f: Priced) -> bool {
+    if t.wrong != 0 {
+        return false;
+    }
+    if f.number == 11 {
+        return t.trees == 0;
+    }
+    if f.number != 0 {
+        return false;
+    }
+    if t.own != t.least {
+        return false;
+    }
+    f.total == t.least
+}
+
+fn print_tally(t: Tally, f: Priced) {
+    io::write_all(1, b": trees ");
+    io::print_decimal(1, t.trees);
+    if t.trees == 0 {
+        io::write_all(1, b", none");
+    } else {
+        io::write_all(1, b", least ");
+        io::print_decimal(1, t.least);
+    }
+    if agree(t, f) {
+        io::write_all(1, b", same\n");
+    } else {
+        io::write_all(1, b", DIFFERENT\n");
+    }
+}
+
+// Finds a tree of a sheet, lists all of them and prints the comparison.
+fn compare(text: &[u8], tree: &mut [u8], work: &mut [u64], list: &mut [u8]) {
+    let f = finding::find(text, tree, work);
+    let nodes = least(f.nodes, tree.len());
+    let t = list_all(text, reading::read(text), &tree[..nodes], list);
+    print_tally(t, f);
+}
+
+// Each sheet of the input: it starts behind a line that begins with # and names it, and ends before the next #.
+fn run(s: &[u8], tree: &mut [u8], work: &mut [u64], list: &mut [u8]) {
+    let mut at = place_of(s, 0, b'#');
+    while at < s.len() {
+        let end = place_of(s, at, b'\n');
+        let start = behind(s, end);
+        let stop = place_of(s, start, b'#');
+        io::write_all(1, &s[at..end]);
+        compare(&s[start..stop], tree, work, list);
+        at = stop;
+    }
+}
+
+fn main() {
+    let mut input = [0u8; 65536];
+    let mut tree = [0u8; 41024];
+    let mut work = [0u64; 8192];
+    let mut list = [0u8; 41024];
+    let n = io::read_full(0, &mut input);
+    run(&input[..n], &mut tree, &mut work, &mut list);
+}
