@@ -25,10 +25,10 @@ use Rattle.rows.specs.Vectors.{vec}
 use Rattle.rows.specs.VectorLaws.{low-eq}
 use Rattle.rows.specs.Memo.{rowAt}
 use Rattle.rows.specs.Rows.{itemAt, Stands, Sound}
-use Rattle.search.specs.declared.build.Built.{Built}
+use Rattle.building.specs.declared.Built.{Built}
 use Rattle.search.specs.declared.Found.the-variants.{Tree}
-use Rattle.search.specs.Rebuilding.{at, behind, BuiltAs, BuildEntry, Partway}
-use Rattle.search.specs.RebuildLaws.{behind-one, behind-low, row-drop, partway-none, partway-next, partway-done}
+use Rattle.building.specs.Rebuilding.{at, behind, BuiltAs, BuildEntry, Partway}
+use Rattle.building.specs.RebuildLaws.{behind-one, behind-low, row-drop, partway-none, partway-next, partway-done}
 use Rattle.search.specs.Search.{barsFrom, behindBars, BarsEntry, BarsBuildEntry, FoundAs}
 
 -- a bar as a record, and the item over it

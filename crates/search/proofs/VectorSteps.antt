@@ -19,8 +19,8 @@ use Rattle.rows.specs.VectorLaws.{low-eq}
 use Rattle.rows.specs.Memo.{rowAt, stored}
 use Rattle.rows.specs.MemoLaws.{stored-size, stored-own, kept-row}
 use Rattle.rows.specs.Rows.{itemAt}
-use Rattle.search.specs.Rebuilding.{behind, BeforeEntry, Before}
-use Rattle.search.specs.RebuildLaws.{behind-more}
+use Rattle.building.specs.Rebuilding.{behind, BeforeEntry, Before}
+use Rattle.building.specs.RebuildLaws.{behind-more}
 use Rattle.search.specs.Search.{barsFrom, behindBars, BarsEntry, VectorsFrom}
 use Rattle.search.proofs.BarSteps.{barAt, bars-low, bar-first-of, bar-stands}
 

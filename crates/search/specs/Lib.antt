@@ -1,4 +1,1 @@
-pub mod Rebuilding
-pub mod RebuildLaws
-pub mod RuleLaws
 pub mod Search

@@ -21,7 +21,7 @@ use Rattle.rows.specs.Memo.{rowAt}
 use Rattle.rows.specs.Rows.{slots, Sound}
 use Rattle.search.specs.declared.Found.{Found}
 use Rattle.search.specs.declared.Found.the-variants.{NoTree, Tree}
-use Rattle.search.specs.Rebuilding.{behind, Goal}
+use Rattle.building.specs.Rebuilding.{behind, Goal}
 
 -- ---- bars
 

@@ -6,8 +6,8 @@ ghost use Rattle.slices.specs.Table.{Table};
 ghost use Rattle.sheet.specs.Sheet.{Sheet};
 ghost use Rattle.search.specs.declared.Found.the-variants.{Tree};
 ghost use Rattle.search.specs.Search.{BarsEntry, VectorsFrom, BarsBuildEntry, ParseEntry, FoundAs, SearchEntry, Searched};
-use build::before;
-use build::build;
+use building::before;
+use building::build;
 use expansions::pack_units;
 use plan::length_count;
 use plan::nonterminals;
@@ -22,8 +22,6 @@ use sheet::GrammarTable;
 use sheet::PlayingTable;
 use sheet::Units;
 use sizes::most_in_bar;
-
-pub mod build;
 
 // What the search gives: there is no tree, or how many bytes the tree has.
 pub enum Found {

@@ -9,7 +9,7 @@ use Rattle.slices.specs.Over.{length-over-from}
 use Rattle.sheet.specs.Sheet.{Sheet}
 use Rattle.expansions.specs.Places.{first-zero}
 use Rattle.search.specs.Search.{BarsBuildEntry}
-use Rattle.search.proofs.BuildSteps.{built-small}
+use Rattle.building.proofs.BuildSteps.{built-small}
 use Rattle.search.proofs.BarSteps.{few-bars, bar-near, InBars, in-bars-none, bar-build, in-bars-more, in-bars-all}
 use Rattle.search.proofs.build_bars.Statement.{statement}
 use Rattle.search.proofs.build_bars.Tie as tie

@@ -27,7 +27,7 @@ use Rattle.expansions.specs.Items.{Counts}
 use Rattle.plan.specs.Plan.{lengthAt, Divides, NoDivision}
 use Rattle.rows.specs.Vectors.{vec}
 use Rattle.rows.specs.Rows.{itemAt, partsAt}
-use Rattle.search.specs.Rebuilding.{at, behind, restTotal}
+use Rattle.building.specs.Rebuilding.{at, behind, restTotal}
 
 module _ (s : Sheet) (g : Item) (v : ℕ → ℕ) (c r : ℕ) where
   -- where the rule makes nothing of the item

@@ -24,9 +24,9 @@ use Rattle.plan.specs.Plan.{ruleCount, lengthAt, lengthCell, Divides, SplitAt, 
 use Rattle.plan.specs.PlanLaws.{lengths-most, length-most}
 use Rattle.rows.specs.declared.table.Bar.{Bar}
 use Rattle.rows.specs.Rows.{itemAt, Sound, Entry, PartsEntry, partsAt, Parted}
-use Rattle.search.specs.Rebuilding.{at, behind, restTotal, RuleEntry, Totalled, ChooseEntry, Chosen}
-use Rattle.search.specs.RebuildLaws.{chosen-first, chosen-some}
-use Rattle.search.specs.RuleLaws.{leaf-many, leaf-totals, total-idle, total-empty, division-totals, division-forward}
+use Rattle.building.specs.Rebuilding.{at, behind, restTotal, RuleEntry, Totalled, ChooseEntry, Chosen}
+use Rattle.building.specs.RebuildLaws.{chosen-first, chosen-some}
+use Rattle.building.specs.RuleLaws.{leaf-many, leaf-totals, total-idle, total-empty, division-totals, division-forward}
 
 pub dot-most : (f : ℕ → ℕ) (d : ℕ) → d ≡ lowest NONE f 4 → d ≤ NONE
 dot-most f d e = rw e (lowest-cap NONE f 4)

@@ -27,12 +27,12 @@ use Rattle.plan.specs.Plan.{lengthAt, lengthCell, Divides, SplitAt}
 use Rattle.plan.specs.PlanLaws.{lengths-most, length-positive}
 use Rattle.rows.specs.declared.table.Bar.{Bar}
 use Rattle.rows.specs.Rows.{itemAt, partsAt}
-use Rattle.search.specs.declared.build.Built.{Built}
-use Rattle.search.specs.Rebuilding.{at, behind, ChooseEntry, Chosen, BuiltAs, BuildEntry}
-use Rattle.search.specs.Rebuilding.{PartsBuildEntry}
-use Rattle.search.specs.RebuildLaws.{built-rule}
-use Rattle.search.specs.RuleLaws.{total-none, not-both, division-expanded, division-totals}
-use Rattle.search.proofs.RuleSteps.{is-length}
+use Rattle.building.specs.declared.Built.{Built}
+use Rattle.building.specs.Rebuilding.{at, behind, ChooseEntry, Chosen, BuiltAs, BuildEntry}
+use Rattle.building.specs.Rebuilding.{PartsBuildEntry}
+use Rattle.building.specs.RebuildLaws.{built-rule}
+use Rattle.building.specs.RuleLaws.{total-none, not-both, division-expanded, division-totals}
+use Rattle.building.proofs.RuleSteps.{is-length}
 
 module _ {s : Sheet} {plan us rows tree : List ℕ} {bar : Bar} {q l : ℕ} {left : Units} {from c : ℕ} {v : List ℕ} {goal to : ℕ}
     (h : BuildEntry s plan us rows tree bar q l left from c v goal to) where

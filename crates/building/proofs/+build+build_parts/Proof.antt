@@ -10,31 +10,31 @@ use Rattle.slices.specs.Over.{length-over-from}
 use Rattle.sheet.specs.Sheet.{Sheet}
 use Rattle.plan.specs.Plan.{lengthCell}
 use Rattle.rows.specs.PartLaws.{rule-below, parts-eight}
-use Rattle.search.specs.Rebuilding.{PartsBuildEntry}
-use Rattle.search.proofs.RestSteps.{length-below, part-near}
-use Rattle.search.proofs.RuleSteps.{choose-length, choose-here}
-use Rattle.search.proofs.BuildSteps.{build-choose, build-room, built-leaf, cost-below, build-parts-entry, built-division}
-use Rattle.search.proofs.BuildSteps.{parts-shorter, late-placed, built-small}
-use Rattle.search.proofs.PartSteps.{InParts, in-parts-none, parts-rest, part-build, in-parts-more, in-parts-all}
+use Rattle.building.specs.Rebuilding.{PartsBuildEntry}
+use Rattle.building.proofs.RestSteps.{length-below, part-near}
+use Rattle.building.proofs.RuleSteps.{choose-length, choose-here}
+use Rattle.building.proofs.BuildSteps.{build-choose, build-room, built-leaf, cost-below, build-parts-entry, built-division}
+use Rattle.building.proofs.BuildSteps.{parts-shorter, late-placed, built-small}
+use Rattle.building.proofs.PartSteps.{InParts, in-parts-none, parts-rest, part-build, in-parts-more, in-parts-all}
 use Prim.Native.Nat.{ℕ, _<_}
 use borrow.Fn.Kinds.{In}
 use borrow.Fn.PlainCycle.{Measures, is, falls, and}
-use Rattle.search.proofs.build.build.Reads as build
-use Rattle.search.proofs.build.build.Kinds as build-kinds
-use Rattle.search.proofs.build.+build+build_parts.Lts-build as build-lts
-use Rattle.search.proofs.build.build_parts.Reads as build-parts
-use Rattle.search.proofs.build.build_parts.Kinds as build-parts-kinds
-use Rattle.search.proofs.build.+build+build_parts.Lts-build_parts as build-parts-lts
+use Rattle.building.proofs.build.Reads as build
+use Rattle.building.proofs.build.Kinds as build-kinds
+use Rattle.building.proofs.+build+build_parts.Lts-build as build-lts
+use Rattle.building.proofs.build_parts.Reads as build-parts
+use Rattle.building.proofs.build_parts.Kinds as build-parts-kinds
+use Rattle.building.proofs.+build+build_parts.Lts-build_parts as build-parts-lts
 use Rattle.expansions.proofs.place.Reads as place-reads
 use Rattle.plan.proofs.child.Reads as child-reads
-use Rattle.search.proofs.build.before_parts.Reads as before-parts-reads
-use Rattle.search.proofs.build.choose.Reads as choose-reads
+use Rattle.building.proofs.before_parts.Reads as before-parts-reads
+use Rattle.building.proofs.choose.Reads as choose-reads
 use Rattle.plan.proofs.cost.Reads as cost-reads
 use Rattle.rows.proofs.table.first_behind.Reads as first-behind-reads
 use Rattle.plan.proofs.length.Reads as length-reads
 use Rattle.plan.proofs.split_at.Reads as split-at-reads
-use Rattle.search.proofs.build.+build+build_parts.{statement}
-use Rattle.search.proofs.build.+build+build_parts.Tie.{close}
+use Rattle.building.proofs.+build+build_parts.{statement}
+use Rattle.building.proofs.+build+build_parts.Tie.{close}
 
 abbrev μ-build : Measures 3 build-kinds.ps ℕ
 μ-build κs a = 2 * lengthCell (a .0 .now) (a .1 .1 .1 .1 .1 .1 .0)

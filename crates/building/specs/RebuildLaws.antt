@@ -29,8 +29,8 @@ use Rattle.rows.specs.Vectors.{vec}
 use Rattle.rows.specs.VectorLaws.{vec-at, low-eq}
 use Rattle.rows.specs.declared.table.Bar.{Bar}
 use Rattle.rows.specs.Rows.{Sound, Entry, Row}
-use Rattle.search.specs.declared.build.Built.{Built}
-use Rattle.search.specs.Rebuilding.{at, behind, BeforeEntry, Before, restTotal, Goal, Chosen, BuiltAs, Partway}
+use Rattle.building.specs.declared.Built.{Built}
+use Rattle.building.specs.Rebuilding.{at, behind, BeforeEntry, Before, restTotal, Goal, Chosen, BuiltAs, Partway}
 
 -- ---- vectors
 

@@ -22,7 +22,7 @@ use Rattle.plan.specs.Plan.{lengthAt, ruleCount}
 use Rattle.rows.specs.declared.table.Bar.{Bar}
 use Rattle.rows.specs.Vectors.{vec, Low}
 use Rattle.rows.specs.Rows.{itemAt, Sound, Stands, Entry, PartsEntry, partsAt}
-use Rattle.search.specs.declared.build.Built.{Built}
+use Rattle.building.specs.declared.Built.{Built}
 
 -- ---- vectors behind items
 

@@ -17,8 +17,8 @@ use Rattle.rows.specs.declared.table.Bar.{Bar}
 use Rattle.rows.specs.Vectors.{vec}
 use Rattle.rows.specs.Rows.{itemAt, PartsEntry}
 use Rattle.rows.specs.PartLaws.{next-near, next-stands}
-use Rattle.search.specs.Rebuilding.{at, behind, BeforeEntry, Before, partsFrom, RestEntry}
-use Rattle.search.specs.RebuildLaws.{behind-more, row-drop, four-cells}
+use Rattle.building.specs.Rebuilding.{at, behind, BeforeEntry, Before, partsFrom, RestEntry}
+use Rattle.building.specs.RebuildLaws.{behind-more, row-drop, four-cells}
 
 -- the numbers of a division: its length and its rule are within the plan, its parts end in the longest piece
 module _ {s : Sheet} {plan us rows : List ℕ} {bar : Bar} {r k l : ℕ} {left : Units} {from c : ℕ}

@@ -1,10 +1,10 @@
 -- `before` meets its contract: the four rows of the item, each with the vector behind it. Assumes nothing.
 use native.Mathlib.Omega.{arith}
 use Rattle.rows.specs.TurnLaws.{row-low}
-use Rattle.search.specs.RebuildLaws.{entry-of, before-rows}
+use Rattle.building.specs.RebuildLaws.{entry-of, before-rows}
 use borrow.Author.Needs.{needs}
-use Rattle.search.proofs.build.before.Statement.{statement}
-use Rattle.search.proofs.build.before.Tie as tie
+use Rattle.building.proofs.before.Statement.{statement}
+use Rattle.building.proofs.before.Tie as tie
 
 cells-requires : tie.Need-cells-requires
 cells-requires c κs =

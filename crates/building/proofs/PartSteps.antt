@@ -18,11 +18,11 @@ use Rattle.plan.specs.PlanLaws.{child-at}
 use Rattle.rows.specs.declared.table.Bar.{Bar}
 use Rattle.rows.specs.Rows.{itemAt, Sound, partsAt}
 use Rattle.rows.specs.PartLaws.{next-stands}
-use Rattle.search.specs.declared.build.Built.{Built}
-use Rattle.search.specs.Rebuilding.{at, Before, partsFrom, RestEntry, BuiltAs, BuildEntry}
-use Rattle.search.specs.Rebuilding.{PartsBuildEntry, Partway}
-use Rattle.search.specs.RebuildLaws.{behind-one, row-drop, partway-none, partway-next, partway-done}
-use Rattle.search.proofs.RestSteps.{part-length}
+use Rattle.building.specs.declared.Built.{Built}
+use Rattle.building.specs.Rebuilding.{at, Before, partsFrom, RestEntry, BuiltAs, BuildEntry}
+use Rattle.building.specs.Rebuilding.{PartsBuildEntry, Partway}
+use Rattle.building.specs.RebuildLaws.{behind-one, row-drop, partway-none, partway-next, partway-done}
+use Rattle.building.proofs.RestSteps.{part-length}
 
 -- j parts are built, and the next begins at `lo`
 pub record InParts (s : Sheet) (rows tree now : List ℕ) (l : ℕ) (left : Units) (kids v : List ℕ) (c to : ℕ) (j lo from carry goal next : ℕ)

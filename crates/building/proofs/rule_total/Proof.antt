@@ -2,11 +2,11 @@
 use mathlib.Core.Path.{refl, sym, _∙_}
 use native.Mathlib.Omega.{arith}
 use Rattle.rows.specs.PartLaws.{parted-low}
-use Rattle.search.proofs.RuleSteps.{rule-small, length-small, few-onsets, near-onsets, told-many, told-leaf, told-idle, told-empty}
-use Rattle.search.proofs.RuleSteps.{told-parts, told-division, dot-most}
+use Rattle.building.proofs.RuleSteps.{rule-small, length-small, few-onsets, near-onsets, told-many, told-leaf, told-idle, told-empty}
+use Rattle.building.proofs.RuleSteps.{told-parts, told-division, dot-most}
 use borrow.Author.Needs.{needs}
-use Rattle.search.proofs.build.rule_total.Statement.{statement}
-use Rattle.search.proofs.build.rule_total.Tie as tie
+use Rattle.building.proofs.rule_total.Statement.{statement}
+use Rattle.building.proofs.rule_total.Tie as tie
 
 add-token-of : tie.Need-add-token-of
 add-token-of c =

@@ -7,11 +7,11 @@ use native.Mathlib.Omega.{arith}
 use Rattle.sheet.specs.Sheet.{Sheet}
 use Rattle.plan.specs.Plan.{ruleCount}
 use Rattle.rows.specs.Rows.{itemAt}
-use Rattle.search.specs.Rebuilding.{at, ChooseEntry}
-use Rattle.search.proofs.RuleSteps.{Tried, choose-length, choose-here, choose-rule, choose-small}
-use Rattle.search.proofs.RuleSteps.{tried-none, tried-more, tried-found, tried-all}
-use Rattle.search.proofs.build.choose.Statement.{statement}
-use Rattle.search.proofs.build.choose.Tie as tie
+use Rattle.building.specs.Rebuilding.{at, ChooseEntry}
+use Rattle.building.proofs.RuleSteps.{Tried, choose-length, choose-here, choose-rule, choose-small}
+use Rattle.building.proofs.RuleSteps.{tried-none, tried-more, tried-found, tried-all}
+use Rattle.building.proofs.choose.Statement.{statement}
+use Rattle.building.proofs.choose.Tie as tie
 
 abbrev Inv-loop : tie.InvT-loop
 Inv-loop plan units rows₀ bar q l left from c v goal placed n r₀ rows r =

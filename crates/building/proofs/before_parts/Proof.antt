@@ -5,10 +5,10 @@ use mathlib.Core.Path.{_≡_, refl, sym, _∙_}
 use native.Mathlib.Omega.{arith}
 use Rattle.sheet.specs.Sheet.{Sheet}
 use Rattle.rows.specs.PartLaws.{rule-below, parts-eight}
-use Rattle.search.specs.Rebuilding.{Before, partsFrom, RestEntry}
-use Rattle.search.proofs.RestSteps.{length-below, part-near, rest-none, rest-entry, rest-more}
-use Rattle.search.proofs.build.before_parts.Statement.{statement}
-use Rattle.search.proofs.build.before_parts.Tie as tie
+use Rattle.building.specs.Rebuilding.{Before, partsFrom, RestEntry}
+use Rattle.building.proofs.RestSteps.{length-below, part-near, rest-none, rest-entry, rest-more}
+use Rattle.building.proofs.before_parts.Statement.{statement}
+use Rattle.building.proofs.before_parts.Tie as tie
 
 abbrev Inv-loop : tie.InvT-loop
 Inv-loop plan units rows₀ bar r k l left from first len x₀ j₀ rows x j =

@@ -1,0 +1,4 @@
+mod RestSteps
+mod RuleSteps
+pub mod BuildSteps
+mod PartSteps
