@@ -10,7 +10,8 @@ use Rattle.derivations.specs.Derivation.{Item, Expansion, Price, Instanc
 use Rattle.derivations.specs.Minima.{lowest, lowest-cap, only, FirstPlace, lowest-first}
 use Rattle.derivations.specs.Least.{Least, least-same, least-nil, least-append, carry-fits}
 use Rattle.derivations.specs.First.{First, first-nil, first-total, first-append, first-rule}
-use Rattle.derivations.specs.Table.{Cells, via, ruleTotal, LeastParts, rule-opening, rules-least, backward, forward, Exact, backward-least, parts-least}
+use Rattle.derivations.specs.Table.{Cells, via, ruleTotal, LeastParts, rule-opening, rules-least}
+use Rattle.derivations.specs.Table.{backward, forward, Exact, backward-least, parts-least}
 use Rattle.derivations.specs.Cells.{Falls, EveryPart, depth-rec, cell, cell-exact}
 
 -- there is a first least list
@@ -54,7 +55,8 @@ module _ {P : Instance} {C : ℕ} (L : Lawful P C) (a cap : ℕ) (cell : Cells) 
       least-same P a cap (g ∷ gs) v c _ _ (rw append-nil at l) (row-least (g ∷ gs) v c hc) (lowest-cap cap _ C) (lowest-cap cap _ C)
 
   -- behind a first list the vector is below the cap where the whole is
-  pub behind-below : (g : Item) (gs : List Item) (v : ℕ → ℕ) (c : ℕ) (b : List ℕ) (p : Price) → c < C → backward C cap cell (g ∷ gs) v c < cap
+  pub behind-below : (g : Item) (gs : List Item) (v : ℕ → ℕ) (c : ℕ) (b : List ℕ) (p : Price) → c < C
+      → backward C cap cell (g ∷ gs) v c < cap
       → First P a (g ∷ []) (backward C cap cell gs v) c b p → backward C cap cell gs v (p .carry) < cap
   unfolding backward
   behind-below g gs v c b p hc h f =
@@ -67,7 +69,8 @@ module _ {P : Instance} {C : ℕ} (L : Lawful P C) (a cap : ℕ) (cell : Cells) 
       → backward C cap cell (g ∷ gs) v c < cap → First P a (g ∷ []) (backward C cap cell gs v) c b₁ p₁ → First P a gs v (p₁ .carry) b₂ p₂
       → First P a (g ∷ gs) v c (b₁ ++ b₂) (p₁ ⊞ p₂)
   first-next g gs v c b₁ b₂ p₁ p₂ hc h f₁ f₂ =
-      first-append L a cap (g ∷ []) gs v (backward C cap cell gs v) c b₁ b₂ p₁ p₂ hc (row-least gs v) (behind-below g gs v c b₁ p₁ hc h f₁) f₁
+      first-append L a cap (g ∷ []) gs v (backward C cap cell gs v) c b₁ b₂ p₁ p₂ hc (row-least gs v)
+      (behind-below g gs v c b₁ p₁ hc h f₁) f₁
       f₂
 
   -- an item, by the first rule that comes to least, and then the first for its parts
@@ -75,7 +78,8 @@ module _ {P : Instance} {C : ℕ} (L : Lawful P C) (a cap : ℕ) (cell : Cells) 
       → (m : Expansion) (bs : List ℕ) (p : Price) → P .expand g c r ≡ some m → First P a (m .parts) v (m .carry) bs p
       → First P a (g ∷ []) v c (r ∷ bs) (priceOf (P .weight r) m ⊞ p)
   first-chosen g v c r hc place ht m bs p e f =
-      first-rule L a cap g [] v c (restTotal g v c) (λ i _. rule-opening P a cap (rest v) g v c i (rest-least g v c hc i)) r place ht m bs p e
+      first-rule L a cap g [] v c (restTotal g v c) (λ i _. rule-opening P a cap (rest v) g v c i (rest-least g v c hc i)) r place ht m bs
+      p e
       (rw append-nil f)
 
   -- items in a row, each with what follows it in the vector behind it

@@ -38,7 +38,8 @@ pub table-over : (z : ℕ) (xs ys old : List ℕ) (n : ℕ) → Table (λ _. z) 
     → drop n xs ≡ drop n old → ys ≡ over (replicate n z) old
 table-over z xs ys old n t h size rest =
     sym (take-append-drop n ys) ∙ ap₂ _++_ front (t .rest ∙ rest)
-    ∙ sym (over-drop (replicate n z) old (omega (arith, length-replicate n z)) ∙ ap (λ (k : ℕ). replicate n z ++ drop k old) (length-replicate n z))
+    ∙ sym (over-drop (replicate n z) old (omega (arith, length-replicate n z))
+    ∙ ap (λ (k : ℕ). replicate n z ++ drop k old) (length-replicate n z))
   where
     count : length (take n ys) ≡ n
     count = length-take-le n ys (omega (arith, t .size))

@@ -136,7 +136,8 @@ loop-again c =
           let lo = a .left .0 + j * len in
           let below : j < a .k = omega (arith, loop-test .taken, loop .inv .1) in
           let near = part-near (h .parts) len j (length .ensures) below in
-          let from = first-behind .ensures s (a .left .0) (h .parts .in-bar .onsets) (h .parts .first) (omega arith) (omega (arith, near)) in
+          let from = first-behind .ensures s (a .left .0) (h .parts .in-bar .onsets) (h .parts .first) (omega arith)
+          (omega (arith, near)) in
           let is-next : j + 1 ≡ loop .j = omega (arith, loop-test .taken) in
           let so-far = loop .inv .2 s h in
           let entry = rest-entry h j (loop .j) lo len below is-next (length .ensures) refl _ _ _ (loop .x) (child .ensures) from so-far in

@@ -130,7 +130,8 @@ loop-again c =
           (loop .inv .0) _ (load .ensures) in
           let built = build .ensures s entry in
           let from = first-behind .ensures s (loop .lo) (h .entry .onsets) (done .first) (omega arith) near in
-          in-bars-more h _ _ (loop .b) (loop .lo) (loop .from) (loop .carry) (loop .due) (loop .next) done (loop-test .taken) (loop .inv .0) _
+          in-bars-more h _ _ (loop .b) (loop .lo) (loop .from) (loop .carry) (loop .due) (loop .next) done (loop-test .taken)
+          (loop .inv .0) _
           (load .ensures) _ _ _ _ _ built from,
     )
 
