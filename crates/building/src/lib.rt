@@ -33,7 +33,7 @@ pub struct Built {
 
 // The vector before an item with the vector v behind it.
 pub fn before<'a>(
-    plan: &'a [u64; 1484],
+    plan: &'a [u64; 1520],
     units: &'a [u32; 513],
     rows: &mut [u64],
     bar: Bar,
@@ -58,7 +58,7 @@ pub fn before<'a>(
 
 // The vector before the parts of rule r from part `first` on, k of the length with index l from `left` on, with the vector v behind them.
 fn before_parts<'a>(
-    plan: &'a [u64; 1484],
+    plan: &'a [u64; 1520],
     units: &'a [u32; 513],
     rows: &mut [u64],
     bar: Bar,
@@ -93,7 +93,7 @@ fn before_parts<'a>(
 // What rule r totals at an item from carry state c with the vector v behind it: a leaf, which does `placed` with the onsets inside, or a
 // division; NONE where it is not allowed.
 fn rule_total<'a>(
-    plan: &'a [u64; 1484],
+    plan: &'a [u64; 1520],
     units: &'a [u32; 513],
     rows: &mut [u64],
     bar: Bar,
@@ -135,7 +135,7 @@ fn rule_total<'a>(
 
 // The first rule at an item that comes to the least total, which is `goal`.
 fn choose<'a>(
-    plan: &'a [u64; 1484],
+    plan: &'a [u64; 1520],
     units: &'a [u32; 513],
     rows: &mut [u64],
     bar: Bar,
@@ -172,7 +172,7 @@ fn choose<'a>(
 
 // Writes the first least list of an item from byte `to` on.
 pub fn build<'a>(
-    plan: &'a [u64; 1484],
+    plan: &'a [u64; 1520],
     units: &'a [u32; 513],
     rows: &mut [u64],
     tree: &mut [u8],
@@ -230,7 +230,7 @@ pub fn build<'a>(
 
 // Writes the first least lists of the parts of rule r, one behind the other.
 fn build_parts<'a>(
-    plan: &'a [u64; 1484],
+    plan: &'a [u64; 1520],
     units: &'a [u32; 513],
     rows: &mut [u64],
     tree: &mut [u8],

@@ -1,4 +1,5 @@
 pub mod RuleSteps
 pub mod LeafSteps
+pub mod SavedSteps
 pub mod SectionSteps
 pub mod PlanSteps

@@ -2,33 +2,37 @@
 use Prim.Native.Nat.{ℕ, _+_, _*_, _≤_, _<_}
 use mathlib.Core.Path.{_≡_, refl, sym, ap, _∙_}
 use mathlib.Core.List.{List, map}
+use mathlib.Core.Option.{some}
+use native.Mathlib.Decide.{decLt}
 use native.Mathlib.Omega.{arith}
 use borrow.Author.Count.{below-more}
 use lib.ListN.{length, getD, set, length-set, List·getD-eq-default}
 use lib.Seq.{getD-set-same, getD-set-other}
+use Rattle.slices.specs.Lookup.{some-below}
 use Rattle.slices.specs.Pad.{pad, getD-pad}
 use Rattle.sheet.specs.declared.table.GrammarTable.{GrammarTable}
-use Rattle.sheet.specs.Sheet.{Grammar, Sheet}
+use Rattle.sheet.specs.Sheet.{division, Grammar, Sheet}
 use Rattle.sheet.specs.Good.{GoodRules}
 use Rattle.sheet.specs.Held.{partsOf, childCells, grammarTable, noPlaying}
+use Rattle.trees.specs.ValidTrees.{ruleAt}
 use Rattle.sizes.specs.declared.LengthTable.{LengthTable}
 use Rattle.sizes.specs.Sizes.{lengthsOf}
 use Rattle.sizes.specs.Held.{lengthTable}
 use Rattle.sizes.specs.SizesLaws.{count-length}
 use Rattle.expansions.specs.Tables.{unpackedOf, PackedRules, RulesHeld}
-use Rattle.plan.specs.Plan.{ruleCount, lengths, lengthAt, PartLength, Prepared}
+use Rattle.plan.specs.Plan.{ruleCount, lengths, lengthAt, PartLength, DivisionsIn, Prepared}
 use Rattle.plan.specs.PlanLaws.{lengths-most, length-positive}
-use Rattle.plan.specs.Sections.{LeastLeaves, PartAmong, LengthCells, Section}
+use Rattle.plan.specs.Sections.{FirstDivision, LastDivision, LeastLeaves, PartAmong, LengthCells, Section}
 
 -- ---- cell after cell
 
-module _ (rules children leaves lens : List ℕ) (count : ℕ) where
+module _ (rules children leaves lens : List ℕ) (count n heads : ℕ) where
   -- the first i cells
   pub record Cells (cells : List ℕ) (i : ℕ) : Type 0 where
-    pub size : length cells ≡ 1484
-    pub each : (j : ℕ) → j < i → Section rules children leaves lens count j (getD cells j 0)
+    pub size : length cells ≡ 1520
+    pub each : (j : ℕ) → j < i → Section rules children leaves lens count n heads j (getD cells j 0)
 
-  pub cells-next : (cells : List ℕ) (i x : ℕ) → Cells cells i → i < 1480 → Section rules children leaves lens count i x
+  pub cells-next : (cells : List ℕ) (i x : ℕ) → Cells cells i → i < 1516 → Section rules children leaves lens count n heads i x
       → Cells (set cells i x) (i + 1)
   cells-next cells i x so-far within here =
       record {
@@ -41,35 +45,35 @@ module _ (rules children leaves lens : List ℕ) (count : ℕ) where
 
 -- the four numbers behind the sections
 abbrev finished : (cells : List ℕ) (a q count n : ℕ) → List ℕ
-finished cells a q count n = set (set (set (set cells 1480 a) 1481 q) 1482 count) 1483 n
+finished cells a q count n = set (set (set (set cells 1516 a) 1517 q) 1518 count) 1519 n
 
-module _ (cells : List ℕ) (a q count n : ℕ) (size : length cells ≡ 1484) where
-  kept : (j : ℕ) → j < 1480 → getD (finished cells a q count n) j 0 ≡ getD cells j 0
+module _ (cells : List ℕ) (a q count n : ℕ) (size : length cells ≡ 1520) where
+  kept : (j : ℕ) → j < 1516 → getD (finished cells a q count n) j 0 ≡ getD cells j 0
   kept j l =
-      getD-set-other (set (set (set cells 1480 a) 1481 q) 1482 count) 1483 j n 0 (λ e. omega arith)
-      ∙ getD-set-other (set (set cells 1480 a) 1481 q) 1482 j count 0 (λ e. omega arith)
-      ∙ getD-set-other (set cells 1480 a) 1481 j q 0 (λ e. omega arith)
-      ∙ getD-set-other cells 1480 j a 0 (λ e. omega arith)
+      getD-set-other (set (set (set cells 1516 a) 1517 q) 1518 count) 1519 j n 0 (λ e. omega arith)
+      ∙ getD-set-other (set (set cells 1516 a) 1517 q) 1518 j count 0 (λ e. omega arith)
+      ∙ getD-set-other (set cells 1516 a) 1517 j q 0 (λ e. omega arith)
+      ∙ getD-set-other cells 1516 j a 0 (λ e. omega arith)
 
-  multiplier-there : getD (finished cells a q count n) 1480 0 ≡ a
+  multiplier-there : getD (finished cells a q count n) 1516 0 ≡ a
   multiplier-there =
-      getD-set-other (set (set (set cells 1480 a) 1481 q) 1482 count) 1483 1480 n 0 (λ e. omega arith)
-      ∙ getD-set-other (set (set cells 1480 a) 1481 q) 1482 1480 count 0 (λ e. omega arith)
-      ∙ getD-set-other (set cells 1480 a) 1481 1480 q 0 (λ e. omega arith) ∙ getD-set-same cells 1480 a 0 (omega arith)
+      getD-set-other (set (set (set cells 1516 a) 1517 q) 1518 count) 1519 1516 n 0 (λ e. omega arith)
+      ∙ getD-set-other (set (set cells 1516 a) 1517 q) 1518 1516 count 0 (λ e. omega arith)
+      ∙ getD-set-other (set cells 1516 a) 1517 1516 q 0 (λ e. omega arith) ∙ getD-set-same cells 1516 a 0 (omega arith)
 
-  nonterminals-there : getD (finished cells a q count n) 1481 0 ≡ q
+  nonterminals-there : getD (finished cells a q count n) 1517 0 ≡ q
   nonterminals-there =
-      getD-set-other (set (set (set cells 1480 a) 1481 q) 1482 count) 1483 1481 n 0 (λ e. omega arith)
-      ∙ getD-set-other (set (set cells 1480 a) 1481 q) 1482 1481 count 0 (λ e. omega arith)
-      ∙ getD-set-same (set cells 1480 a) 1481 q 0 (rw length-set (omega arith))
+      getD-set-other (set (set (set cells 1516 a) 1517 q) 1518 count) 1519 1517 n 0 (λ e. omega arith)
+      ∙ getD-set-other (set (set cells 1516 a) 1517 q) 1518 1517 count 0 (λ e. omega arith)
+      ∙ getD-set-same (set cells 1516 a) 1517 q 0 (rw length-set (omega arith))
 
-  lengths-there : getD (finished cells a q count n) 1482 0 ≡ count
+  lengths-there : getD (finished cells a q count n) 1518 0 ≡ count
   lengths-there =
-      getD-set-other (set (set (set cells 1480 a) 1481 q) 1482 count) 1483 1482 n 0 (λ e. omega arith)
-      ∙ getD-set-same (set (set cells 1480 a) 1481 q) 1482 count 0 (simp length-set (omega arith))
+      getD-set-other (set (set (set cells 1516 a) 1517 q) 1518 count) 1519 1518 n 0 (λ e. omega arith)
+      ∙ getD-set-same (set (set cells 1516 a) 1517 q) 1518 count 0 (simp length-set (omega arith))
 
-  rules-there : getD (finished cells a q count n) 1483 0 ≡ n
-  rules-there = getD-set-same (set (set (set cells 1480 a) 1481 q) 1482 count) 1483 n 0 (simp length-set (omega arith))
+  rules-there : getD (finished cells a q count n) 1519 0 ≡ n
+  rules-there = getD-set-same (set (set (set cells 1516 a) 1517 q) 1518 count) 1519 n 0 (simp length-set (omega arith))
 
 -- ---- the plan
 
@@ -89,6 +93,11 @@ pub record TablesOf (s : Sheet) (rules children leaves lens : List ℕ) (a q cou
 pub few-rules : (g : GrammarTable) (h : Grammar) → GoodRules h → g ≡ grammarTable h → g .count ≤ 64
 unfolding grammarTable
 few-rules g h good e = omega (arith, ap (λ (t : GrammarTable). t .count) e, good .most)
+
+-- and at most 16 nonterminals
+pub few-heads : (g : GrammarTable) (h : Grammar) → GoodRules h → g ≡ grammarTable h → g .nonterminals ≤ 16
+unfolding grammarTable
+few-heads g h good e = omega (arith, ap (λ (t : GrammarTable). t .nonterminals) e, good .sixteen)
 
 -- its lengths, from the front of the table
 pub length-cells : (h : Grammar) → GoodRules h → (t : LengthTable) → t ≡ lengthTable (lengthsOf (h .rules))
@@ -149,7 +158,33 @@ module _ (s : Sheet) (rules children leaves lens : List ℕ) (a q count n : ℕ)
             (lens-at l within ∙ e ∙ ap (λ (x : ℕ). k * x) (sym (lens-at i (omega (arith, lengths-most s)))));
       }
 
-  pub prepared : (cells : List ℕ) (i : ℕ) → Cells rules children leaves lens count cells i → 1480 ≤ i
+  -- every division is a rule
+  divisions-of : (p x y : ℕ) → FirstDivision rules n p x → LastDivision rules n p y → DivisionsIn s p x y
+  divisions-of p x y first last =
+      record {
+        from-in = omega (arith, first .0, t .n-is);
+        to-in = omega (arith, last .0, t .n-is);
+        within = λ r w ks e. (from r w ks e, to r w ks e);
+      }
+    where
+      held : RulesHeld s rules
+      held = record { good = t .good; rules = t .rules-are }
+
+      from : (r w : ℕ) (ks : List ℕ) → ruleAt s r ≡ some (division p w ks) → x ≤ r
+      from r w ks e = elim (decLt r x) [
+        | yes h ↦ absurd (first .1 s held r h w ks e)
+        | no k ↦ omega arith
+      ]
+
+      to : (r w : ℕ) (ks : List ℕ) → ruleAt s r ≡ some (division p w ks) → r < y
+      to r w ks e = elim (decLt r y) [
+        | yes h ↦ h
+        | no k ↦
+            absurd
+            (last .1 s held r (omega arith) (omega (arith, some-below (s .grammar .rules) r (division p w ks) e, t .n-is)) w ks e)
+      ]
+
+  pub prepared : (cells : List ℕ) (i : ℕ) → Cells rules children leaves lens count n q cells i → 1516 ≤ i
       → Prepared s (finished cells a q count n)
   prepared cells i all past =
       record {
@@ -163,14 +198,18 @@ module _ (s : Sheet) (rules children leaves lens : List ℕ) (a q count n : ℕ)
             ∙ t .leaves-are p m l k;
         length-at = λ l h. is (640 + l) (omega arith) ∙ at (640 + l) (omega arith) .length l h refl ∙ lens-at l h;
         part = λ l k h m. rw (is (724 + 9 * l + k) (omega arith)) (part-of l k _ h (at (724 + 9 * l + k) (omega arith) .part l k h m refl));
+        divisions = λ p h.
+            rw (is (1480 + p) (omega arith), is (1496 + p) (omega arith))
+            (divisions-of p _ _ (at (1480 + p) (omega arith) .first p h refl) (at (1496 + p) (omega arith) .last p h refl));
+        saved-are = λ c h. is (1512 + c) (omega arith) ∙ at (1512 + c) (omega arith) .saved c h refl s (t .leaves-are) (t .q-is);
         multiplier = multiplier-there cells a q count n (all .size) ∙ t .a-is;
         nonterminals = nonterminals-there cells a q count n (all .size) ∙ t .q-is;
         lengths-are = lengths-there cells a q count n (all .size) ∙ count-lengths;
         rules-are = rules-there cells a q count n (all .size) ∙ t .n-is;
       }
     where
-      is : (j : ℕ) → j < 1480 → getD (finished cells a q count n) j 0 ≡ getD cells j 0
+      is : (j : ℕ) → j < 1516 → getD (finished cells a q count n) j 0 ≡ getD cells j 0
       is j l = kept cells a q count n (all .size) j l
 
-      at : (j : ℕ) → j < 1480 → Section rules children leaves lens count j (getD cells j 0)
+      at : (j : ℕ) → j < 1516 → Section rules children leaves lens count n q j (getD cells j 0)
       at j l = all .each j (omega arith)

@@ -14,11 +14,12 @@ use Rattle.sheet.specs.declared.table.Rule.the-variants.{Division, Leaf}
 use Rattle.sheet.specs.Sheet.{Rule, division, leaf, Sheet}
 use Rattle.trees.specs.ValidTrees.{ruleAt, weightOf, weightAt}
 use Rattle.trees.specs.Room.{good-division}
-use Rattle.expansions.specs.Tables.{unpackedOf, cellOf, PackedRules}
+use Rattle.expansions.specs.Tables.{unpackedOf, cellOf, PackedRules, RulesHeld}
 use Rattle.expansions.specs.RuleCells.{leaf≢division, leaf-rule, DivisionRule, division-rule}
 use Rattle.plan.specs.declared.Split.{Split}
 use Rattle.plan.specs.Plan.{lengths, partCell, multiplierCell, lengthsCell, Prepared}
 use Rattle.plan.specs.Plan.{Divides, PartsOf, NoDivision, SplitAt, LeafRule}
+use Rattle.plan.specs.Sections.{NotHead}
 use Rattle.plan.specs.PlanLaws.{part-listed}
 
 -- the sheet's rule has the cell that was read
@@ -40,6 +41,18 @@ leaf-weight o h w n e = rw (leaf-rule o h w n e)
 -- what stands for no division
 abbrev noSplit : Split
 noSplit = record { arity = 0; part = 0 }
+
+-- a rule that was read is no division of nonterminal q: it is a leaf, or has another head
+module _ (s : Sheet) (cells : List ℕ) (r q : ℕ) (rule : held.Rule) (below : r < 64) (is : rule ≡ unpackedOf (getD cells r 0))
+    (t : RulesHeld s cells) where
+  pub leaf-not-head : (h w n : ℕ) → rule ≡ Leaf h w n → NotHead s q r
+  leaf-not-head h w n e v ks o =
+      absurd (leaf≢division _ _ _ _ _ _ (sym (cell-read s cells r (t .rules) below rule _ is e) ∙ ap cellOf o))
+
+  pub other-not-head : (h w k : ℕ) → rule ≡ Division h w k → (h ≡ q → ⊥) → NotHead s q r
+  other-not-head h w k e f v ks o =
+      let same : Division h w k ≡ Division q v (length ks) = sym (cell-read s cells r (t .rules) below rule _ is e) ∙ ap cellOf o in
+      f (cc same)
 
 -- a times a weight
 pub weighted-most : (a w : ℕ) → a < 65536 → w < 65536 → a * w ≤ 4294836225

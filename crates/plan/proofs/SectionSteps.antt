@@ -1,11 +1,11 @@
 -- Steps of filling the plan: the place of a part, and a cell by sections.
 use Prim.Native.Nat.{ℕ, _-_, _*_, _/_, _%_, _≤_, _<_}
-use mathlib.Core.Path.{_≡_, ap, subst₂}
+use mathlib.Core.Path.{_≡_, ap, subst, subst₂}
 use mathlib.Core.List.{List}
 use native.Mathlib.Nat.{mul-le-mul}
 use native.Mathlib.Omega.{arith}
 use lib.ListN.{getD}
-use Rattle.plan.specs.Sections.{PartAmong, LengthCells, Section}
+use Rattle.plan.specs.Sections.{FirstDivision, LastDivision, MostSaved, PartAmong, LengthCells, Section}
 
 -- ---- the place of a part
 
@@ -40,8 +40,8 @@ module _ (lens : List ℕ) (count l k : ℕ) (t : LengthCells lens count) (past 
 
 -- ---- a cell, by sections
 
-module _ (rules children leaves lens : List ℕ) (count i : ℕ) where
-  pub at-child : 64 ≤ i → i < 576 → Section rules children leaves lens count i (getD children (i - 64) 0)
+module _ (rules children leaves lens : List ℕ) (count n heads i : ℕ) where
+  pub at-child : 64 ≤ i → i < 576 → Section rules children leaves lens count n heads i (getD children (i - 64) 0)
   at-child h m =
       record {
         rule = λ l. absurd (omega arith);
@@ -49,9 +49,12 @@ module _ (rules children leaves lens : List ℕ) (count i : ℕ) where
         leaf = λ j l e. absurd (omega arith);
         length = λ j l e. absurd (omega arith);
         part = λ j k l f e. absurd (omega arith);
+        first = λ j l e. absurd (omega arith);
+        last = λ j l e. absurd (omega arith);
+        saved = λ j l e. absurd (omega arith);
       }
 
-  pub at-leaf : 576 ≤ i → i < 640 → Section rules children leaves lens count i (getD leaves (i - 576) 0)
+  pub at-leaf : 576 ≤ i → i < 640 → Section rules children leaves lens count n heads i (getD leaves (i - 576) 0)
   at-leaf h m =
       record {
         rule = λ l. absurd (omega arith);
@@ -59,9 +62,12 @@ module _ (rules children leaves lens : List ℕ) (count i : ℕ) where
         leaf = λ j l e. ap (λ (k : ℕ). getD leaves k 0) (omega arith);
         length = λ j l e. absurd (omega arith);
         part = λ j k l f e. absurd (omega arith);
+        first = λ j l e. absurd (omega arith);
+        last = λ j l e. absurd (omega arith);
+        saved = λ j l e. absurd (omega arith);
       }
 
-  pub at-length : 640 ≤ i → i < 724 → Section rules children leaves lens count i (getD lens (i - 640) 0)
+  pub at-length : 640 ≤ i → i < 724 → Section rules children leaves lens count n heads i (getD lens (i - 640) 0)
   at-length h m =
       record {
         rule = λ l. absurd (omega arith);
@@ -69,15 +75,60 @@ module _ (rules children leaves lens : List ℕ) (count i : ℕ) where
         leaf = λ j l e. absurd (omega arith);
         length = λ j l e. ap (λ (k : ℕ). getD lens k 0) (omega arith);
         part = λ j k l f e. absurd (omega arith);
+        first = λ j l e. absurd (omega arith);
+        last = λ j l e. absurd (omega arith);
+        saved = λ j l e. absurd (omega arith);
       }
 
-  pub at-part : (x : ℕ) → 724 ≤ i → PartAmong lens count ((i - 724) / 9) ((i - 724) % 9) x
-      → Section rules children leaves lens count i x
-  at-part x h p =
+  pub at-part : (x : ℕ) → 724 ≤ i → i < 1480 → PartAmong lens count ((i - 724) / 9) ((i - 724) % 9) x
+      → Section rules children leaves lens count n heads i x
+  at-part x h m p =
       record {
         rule = λ l. absurd (omega arith);
         child = λ j l e. absurd (omega arith);
         leaf = λ j l e. absurd (omega arith);
         length = λ j l e. absurd (omega arith);
         part = λ j k l f e. subst₂ (λ (y z : ℕ). PartAmong lens count y z x) (omega arith) (omega arith) p;
+        first = λ j l e. absurd (omega arith);
+        last = λ j l e. absurd (omega arith);
+        saved = λ j l e. absurd (omega arith);
+      }
+
+  pub at-first : (x : ℕ) → 1480 ≤ i → i < 1496 → FirstDivision rules n (i - 1480) x → Section rules children leaves lens count n heads i x
+  at-first x h m p =
+      record {
+        rule = λ l. absurd (omega arith);
+        child = λ j l e. absurd (omega arith);
+        leaf = λ j l e. absurd (omega arith);
+        length = λ j l e. absurd (omega arith);
+        part = λ j k l f e. absurd (omega arith);
+        first = λ j l e. subst (λ (y : ℕ). FirstDivision rules n y x) (omega arith) p;
+        last = λ j l e. absurd (omega arith);
+        saved = λ j l e. absurd (omega arith);
+      }
+
+  pub at-last : (x : ℕ) → 1496 ≤ i → i < 1512 → LastDivision rules n (i - 1496) x → Section rules children leaves lens count n heads i x
+  at-last x h m p =
+      record {
+        rule = λ l. absurd (omega arith);
+        child = λ j l e. absurd (omega arith);
+        leaf = λ j l e. absurd (omega arith);
+        length = λ j l e. absurd (omega arith);
+        part = λ j k l f e. absurd (omega arith);
+        first = λ j l e. absurd (omega arith);
+        last = λ j l e. subst (λ (y : ℕ). LastDivision rules n y x) (omega arith) p;
+        saved = λ j l e. absurd (omega arith);
+      }
+
+  pub at-saved : (x : ℕ) → 1512 ≤ i → MostSaved leaves heads (i - 1512) x → Section rules children leaves lens count n heads i x
+  at-saved x h p =
+      record {
+        rule = λ l. absurd (omega arith);
+        child = λ j l e. absurd (omega arith);
+        leaf = λ j l e. absurd (omega arith);
+        length = λ j l e. absurd (omega arith);
+        part = λ j k l f e. absurd (omega arith);
+        first = λ j l e. absurd (omega arith);
+        last = λ j l e. absurd (omega arith);
+        saved = λ j l e. subst (λ (y : ℕ). MostSaved leaves heads y x) (omega arith) p;
       }

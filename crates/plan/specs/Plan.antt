@@ -1,6 +1,6 @@
 -- What the search looks up of a grammar, as a function of the sheet, and where it stands in the plan: one flat array of numbers that is
 -- prepared once for a sheet.
-use Prim.Native.Nat.{ℕ, _+_, _*_, _%_, _≤_, _<_}
+use Prim.Native.Nat.{ℕ, _+_, _-_, _*_, _%_, _≤_, _<_}
 use mathlib.Core.Path.{_≡_}
 use mathlib.Core.Bool.{Bool, true, false, cond}
 use mathlib.Core.List.{List, map}
@@ -11,9 +11,9 @@ use Rattle.sheet.specs.Sheet.{Rule, division, leaf, Sheet}
 use Rattle.sheet.specs.Good.{GoodRules}
 use Rattle.sheet.specs.Held.{partsOf, childCells}
 use Rattle.derivations.specs.Minima.{lowest}
-use Rattle.trees.specs.ValidTrees.{ruleAt}
+use Rattle.trees.specs.ValidTrees.{ruleAt, token}
 use Rattle.trees.specs.LeastTotal.{NONE}
-use Rattle.sizes.specs.Sizes.{lengthsOf, lengthCount}
+use Rattle.sizes.specs.Sizes.{largest, lengthsOf, lengthCount}
 use Rattle.expansions.specs.Tables.{PackedRules}
 use Rattle.plan.specs.declared.Split.{Split}
 
@@ -41,10 +41,26 @@ unfoldable pub leastLeaf : Sheet → (q n : ℕ) → ℕ
 unfolding lowest
 leastLeaf s q n = lowest NONE (λ r. leafCost (s .grammar .multiplier) q n (ruleAt s r)) (ruleCount s)
 
+-- by how much a leaf of nonterminal q that e onsets are early in is cheaper with c onsets carried in than with none; 0 where it is not. A
+-- leaf that no rule makes costs the cap, and is not cheaper than any.
+abbrev pub savedAt : Sheet → (q c e : ℕ) → ℕ
+savedAt s q c e = leastLeaf s q e - leastLeaf s q (token (c + e))
+
+-- the most of it, over all nonterminals and kinds
+unfoldable pub savedBy : Sheet → (c : ℕ) → ℕ
+unfolding largest leastLeaf
+savedBy s c = largest (λ q. largest (savedAt s q c) 4) (s .grammar .nonterminals)
+
 -- h is the index of the length with index l divided by k; where that is no length, h is past them
 pub record PartLength (s : Sheet) (l k h : ℕ) : Type 0 where
   pub is : h < lengths s → lengthAt s l ≡ k * lengthAt s h
   pub none : lengths s ≤ h → (i : ℕ) → i < lengths s → lengthAt s l ≡ k * lengthAt s i → ⊥
+
+-- the divisions of nonterminal q are among the rules from `from` up to, but not, `to`
+pub record DivisionsIn (s : Sheet) (q from to : ℕ) : Type 0 where
+  pub from-in : from ≤ ruleCount s
+  pub to-in : to ≤ ruleCount s
+  pub within : (r w : ℕ) (ks : List ℕ) → ruleAt s r ≡ some (division q w ks) → (from ≤ r) × (r < to)
 
 -- ---- where it stands
 
@@ -60,17 +76,26 @@ lengthCell plan l = getD plan (640 + l) 0
 abbrev pub partCell : List ℕ → (l k : ℕ) → ℕ
 partCell plan l k = getD plan (724 + 9 * l + k) 0
 
+abbrev pub firstCell : List ℕ → ℕ → ℕ
+firstCell plan q = getD plan (1480 + q) 0
+
+abbrev pub lastCell : List ℕ → ℕ → ℕ
+lastCell plan q = getD plan (1496 + q) 0
+
+abbrev pub savedCell : List ℕ → ℕ → ℕ
+savedCell plan c = getD plan (1512 + c) 0
+
 abbrev pub multiplierCell : List ℕ → ℕ
-multiplierCell plan = getD plan 1480 0
+multiplierCell plan = getD plan 1516 0
 
 abbrev pub nonterminalsCell : List ℕ → ℕ
-nonterminalsCell plan = getD plan 1481 0
+nonterminalsCell plan = getD plan 1517 0
 
 abbrev pub lengthsCell : List ℕ → ℕ
-lengthsCell plan = getD plan 1482 0
+lengthsCell plan = getD plan 1518 0
 
 abbrev pub rulesCell : List ℕ → ℕ
-rulesCell plan = getD plan 1483 0
+rulesCell plan = getD plan 1519 0
 
 -- the plan of a sheet
 pub record Prepared (s : Sheet) (plan : List ℕ) : Type 0 where
@@ -80,6 +105,8 @@ pub record Prepared (s : Sheet) (plan : List ℕ) : Type 0 where
   pub leaves : (q n : ℕ) → q < 16 → n < 4 → leafCell plan q n ≡ leastLeaf s q n
   pub length-at : (l : ℕ) → l < 84 → lengthCell plan l ≡ lengthAt s l
   pub part : (l k : ℕ) → l < 84 → k < 9 → PartLength s l k (partCell plan l k)
+  pub divisions : (q : ℕ) → q < 16 → DivisionsIn s q (firstCell plan q) (lastCell plan q)
+  pub saved-are : (c : ℕ) → c < 4 → savedCell plan c ≡ savedBy s c
   pub multiplier : multiplierCell plan ≡ s .grammar .multiplier
   pub nonterminals : nonterminalsCell plan ≡ s .grammar .nonterminals
   pub lengths-are : lengthsCell plan ≡ lengths s

@@ -17,7 +17,7 @@ use Rattle.sheet.specs.Good.{GoodRules}
 use Rattle.sheet.specs.Held.{partsOf, childCells}
 use Rattle.sheet.specs.Children.{parts-of}
 use Rattle.derivations.specs.Minima.{lowest-cap}
-use Rattle.trees.specs.ValidTrees.{ruleAt}
+use Rattle.trees.specs.ValidTrees.{ruleAt, token}
 use Rattle.trees.specs.LeastTotal.{NONE}
 use Rattle.trees.specs.Room.{good-division}
 use Rattle.sizes.specs.Sizes.{hasArity, Length, part, lengthsOf}
@@ -67,6 +67,14 @@ module _ (s : Sheet) where
   pub least-leaf-most : (q n : ℕ) → leastLeaf s q n ≤ NONE
   unfolding leastLeaf
   least-leaf-most q n = lowest-cap NONE (λ r. leafCost (s .grammar .multiplier) q n (ruleAt s r)) (ruleCount s)
+
+-- ---- token kinds
+
+pub token-below : (e : ℕ) → token e < 4
+token-below zero = omega arith
+token-below (suc zero) = omega arith
+token-below (suc (suc zero)) = omega arith
+token-below (suc (suc (suc e))) = omega arith
 
 -- ---- the part of a length
 

@@ -1,14 +1,18 @@
 // Filling the plan, once a sheet: first the tables, then each cell from them.
 ghost use mathlib.Core.Path.{_≡_};
-ghost use Prim.Native.Nat.{_<_, _≤_};
+ghost use mathlib.Core.Bool.{false};
+ghost use Prim.Native.Nat.{_-_, _<_, _≤_, max};
 ghost use Rattle.sheet.specs.Sheet.{Grammar, Sheet};
 ghost use Rattle.sheet.specs.Good.{GoodRules};
 ghost use Rattle.sheet.specs.Held.{grammarTable};
+ghost use Rattle.sizes.specs.Sizes.{largest};
 ghost use Rattle.expansions.specs.Tables.{RulesHeld};
-ghost use Rattle.plan.specs.Plan.{ruleCount, Prepared};
+ghost use Rattle.plan.specs.Plan.{ruleCount, savedAt, Prepared};
+ghost use Rattle.plan.specs.Sections.{NotHead, FirstDivision, LastDivision, MostSaved};
 ghost use Rattle.plan.specs.Sections.{LeastLeaves, PartAmong, Small, LengthCells, Section};
 use expansions::pack_rules;
 use expansions::rule_at;
+use expansions::token_of;
 use sheet::GrammarTable;
 use sheet::Rule;
 use sizes::lengths;
@@ -65,6 +69,107 @@ fn part_at(lens: &[u32; 84], count: usize, l: usize, k: usize) -> u64
     count as u64
 }
 
+// Whether rule r is a division of nonterminal q.
+fn is_division(rules: &[u64; 64], r: usize, q: usize) -> bool
+    requires { ⌜ r < 64 ⌝ }
+    ensures { λ x. ⌜ ((s : Sheet) → RulesHeld s (now (rules .entry)) → x ≡ false → NotHead s q r) ⌝ }
+{
+    let rule = rule_at(rules, r);
+    match rule {
+        Rule::Division {
+            head,
+            weight: _,
+            arity: _,
+        } => {
+            if head as usize != q {
+                return false;
+            }
+            true
+        }
+        Rule::Leaf {
+            head: _,
+            weight: _,
+            n: _,
+        } => false,
+    }
+}
+
+// Of the first n rules, the first that is a division of nonterminal q; n where there is none.
+fn first_of(rules: &[u64; 64], n: usize, q: usize) -> u64
+    requires { ⌜ n ≤ 64 ⌝ }
+    ensures { λ x. ⌜ FirstDivision (now (rules .entry)) n q x ⌝ }
+{
+    let mut r: usize = 0;
+    while r < n {
+        if is_division(rules, r, q) {
+            return r as u64;
+        }
+        r += 1;
+    }
+    n as u64
+}
+
+// One past the last of them; 0 where there is none.
+fn last_of(rules: &[u64; 64], n: usize, q: usize) -> u64
+    requires { ⌜ n ≤ 64 ⌝ }
+    ensures { λ x. ⌜ LastDivision (now (rules .entry)) n q x ⌝ }
+{
+    let mut r = n;
+    while 0 < r {
+        let rule = r - 1;
+        if is_division(rules, rule, q) {
+            return r as u64;
+        }
+        r = rule;
+    }
+    0
+}
+
+// By how much a exceeds b; 0 where it does not.
+fn excess(a: u64, b: u64) -> u64
+    ensures { λ r. ⌜ r ≡ a - b ⌝ }
+{
+    if b < a { a - b } else { 0 }
+}
+
+// The larger of two numbers.
+fn larger(a: u64, b: u64) -> u64
+    ensures { λ r. ⌜ r ≡ max a b ⌝ }
+{
+    if a < b { b } else { a }
+}
+
+// The most that a leaf of nonterminal q is cheaper with c onsets carried in than with none.
+fn saved_at(leaves: &[u64; 64], q: usize, c: usize) -> u64
+    requires { ⌜ (q < 16) × (c < 4) ⌝ }
+    ensures { λ x. ⌜ ((s : Sheet) → LeastLeaves s (now (leaves .entry)) → x ≡ largest (savedAt s q c) 4) ⌝ }
+{
+    let mut most: u64 = 0;
+    let mut e: usize = 0;
+    while e < 4 {
+        let kind = token_of(c + e) as usize;
+        let x = excess(leaves[4 * q + e], leaves[4 * q + kind]);
+        most = larger(most, x);
+        e += 1;
+    }
+    most
+}
+
+// The most of it, over the nonterminals below `heads`.
+fn saved_by(leaves: &[u64; 64], heads: usize, c: usize) -> u64
+    requires { ⌜ (heads ≤ 16) × (c < 4) ⌝ }
+    ensures { λ x. ⌜ MostSaved (now (leaves .entry)) heads c x ⌝ }
+{
+    let mut most: u64 = 0;
+    let mut q: usize = 0;
+    while q < heads {
+        let x = saved_at(leaves, q, c);
+        most = larger(most, x);
+        q += 1;
+    }
+    most
+}
+
 // Cell i of the plan's sections. Behind the last length stands 0, so that no part is looked for there.
 fn section_at<'a>(
     rules: &'a [u64; 64],
@@ -72,11 +177,16 @@ fn section_at<'a>(
     leaves: &'a [u64; 64],
     lens: &'a [u32; 84],
     count: usize,
+    n: usize,
+    heads: usize,
     i: usize,
 ) -> u64
-    requires { ⌜ (count ≤ 84) × (i < 1480) × Small (now children) × Small (now lens) × LengthCells (now lens) count ⌝ }
+    requires { ⌜
+        (count ≤ 84) × (i < 1516) × Small (now children) × Small (now lens) × LengthCells (now lens) count × (n ≤ 64)
+        × (heads ≤ 16)
+        ⌝ }
     ensures { λ x. ⌜
-        Section (now (rules .entry)) (now (children .entry)) (now (leaves .entry)) (now (lens .entry)) count i x
+        Section (now (rules .entry)) (now (children .entry)) (now (leaves .entry)) (now (lens .entry)) count n heads i x
         ⌝ }
 {
     if i < 64 {
@@ -91,6 +201,15 @@ fn section_at<'a>(
     if i < 724 {
         return lens[i - 640] as u64;
     }
+    if 1512 <= i {
+        return saved_by(leaves, heads, i - 1512);
+    }
+    if 1496 <= i {
+        return last_of(rules, n, i - 1496);
+    }
+    if 1480 <= i {
+        return first_of(rules, n, i - 1480);
+    }
     let j = i - 724;
     if j / 9 < count {
         return part_at(lens, count, j / 9, j % 9);
@@ -102,7 +221,7 @@ fn section_at<'a>(
 }
 
 // The plan of a grammar.
-pub fn prepare(grammar: GrammarTable) -> [u64; 1484]
+pub fn prepare(grammar: GrammarTable) -> [u64; 1520]
     requires { ⌜ ((h : Grammar) × GoodRules h × (grammar ≡ grammarTable h)) ⌝ }
     ensures { λ r. ⌜ ((s : Sheet) → GoodRules (s .grammar) → grammar ≡ grammarTable (s .grammar) → Prepared s r) ⌝ }
 {
@@ -112,15 +231,17 @@ pub fn prepare(grammar: GrammarTable) -> [u64; 1484]
     let reached = lengths(grammar);
     let lens = reached.cells;
     let count = reached.count;
-    let mut plan = [0u64; 1484];
+    let n = grammar.count;
+    let heads = grammar.nonterminals as usize;
+    let mut plan = [0u64; 1520];
     let mut i: usize = 0;
-    while i < 1480 {
-        plan[i] = section_at(&rules, &children, &leaves, &lens, count, i);
+    while i < 1516 {
+        plan[i] = section_at(&rules, &children, &leaves, &lens, count, n, heads, i);
         i += 1;
     }
-    plan[1480] = grammar.multiplier as u64;
-    plan[1481] = grammar.nonterminals as u64;
-    plan[1482] = count as u64;
-    plan[1483] = grammar.count as u64;
+    plan[1516] = grammar.multiplier as u64;
+    plan[1517] = heads as u64;
+    plan[1518] = count as u64;
+    plan[1519] = n as u64;
     plan
 }

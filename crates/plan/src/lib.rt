@@ -4,7 +4,8 @@ ghost use mathlib.Core.Path.{_≡_};
 ghost use Prim.Native.Nat.{_+_, _*_, _<_, _≤_};
 ghost use Rattle.sheet.specs.Sheet.{Sheet};
 ghost use Rattle.trees.specs.ValidTrees.{weightAt};
-ghost use Rattle.plan.specs.Plan.{childCell, leafCell, lengthCell, multiplierCell, nonterminalsCell, lengthsCell, rulesCell};
+ghost use Rattle.plan.specs.Plan.{childCell, leafCell, lengthCell, firstCell, lastCell, savedCell};
+ghost use Rattle.plan.specs.Plan.{multiplierCell, nonterminalsCell, lengthsCell, rulesCell};
 ghost use Rattle.plan.specs.Plan.{lengths, Prepared, PartsOf, SplitAt, LeafRule};
 
 mod fill;
@@ -21,7 +22,7 @@ pub struct Split {
 }
 
 // The nonterminal of part j of rule r.
-pub fn child(plan: &[u64; 1484], r: usize, j: usize) -> usize
+pub fn child(plan: &[u64; 1520], r: usize, j: usize) -> usize
     requires { ⌜ (r < 64) × (j < 8) ⌝ }
     ensures { λ x. ⌜ x ≡ childCell (now (plan .entry)) r j ⌝ }
 {
@@ -29,43 +30,67 @@ pub fn child(plan: &[u64; 1484], r: usize, j: usize) -> usize
 }
 
 // The least cost of a leaf rule of nonterminal q with this n, or the cap.
-pub fn least_leaf(plan: &[u64; 1484], q: usize, n: usize) -> u64
+pub fn least_leaf(plan: &[u64; 1520], q: usize, n: usize) -> u64
     requires { ⌜ (q < 16) × (n < 4) ⌝ }
     ensures { λ x. ⌜ x ≡ leafCell (now (plan .entry)) q n ⌝ }
 {
     plan[576 + 4 * q + n]
 }
 
+// The first rule that is a division of nonterminal q; the number of rules where there is none.
+pub fn first_division(plan: &[u64; 1520], q: usize) -> usize
+    requires { ⌜ q < 16 ⌝ }
+    ensures { λ x. ⌜ x ≡ firstCell (now (plan .entry)) q ⌝ }
+{
+    plan[1480 + q] as usize
+}
+
+// One past the last of them; 0 where there is none.
+pub fn last_division(plan: &[u64; 1520], q: usize) -> usize
+    requires { ⌜ q < 16 ⌝ }
+    ensures { λ x. ⌜ x ≡ lastCell (now (plan .entry)) q ⌝ }
+{
+    plan[1496 + q] as usize
+}
+
+// The most that a leaf is cheaper with c onsets carried in than with none.
+pub fn saved(plan: &[u64; 1520], c: usize) -> u64
+    requires { ⌜ c < 4 ⌝ }
+    ensures { λ x. ⌜ x ≡ savedCell (now (plan .entry)) c ⌝ }
+{
+    plan[1512 + c]
+}
+
 // The multiplier a.
-pub fn multiplier(plan: &[u64; 1484]) -> u64
+pub fn multiplier(plan: &[u64; 1520]) -> u64
     ensures { λ x. ⌜ x ≡ multiplierCell (now (plan .entry)) ⌝ }
 {
-    plan[1480]
+    plan[1516]
 }
 
 // The number of nonterminals.
-pub fn nonterminals(plan: &[u64; 1484]) -> usize
+pub fn nonterminals(plan: &[u64; 1520]) -> usize
     ensures { λ x. ⌜ x ≡ nonterminalsCell (now (plan .entry)) ⌝ }
 {
-    plan[1481] as usize
+    plan[1517] as usize
 }
 
 // The number of lengths.
-pub fn length_count(plan: &[u64; 1484]) -> usize
+pub fn length_count(plan: &[u64; 1520]) -> usize
     ensures { λ x. ⌜ x ≡ lengthsCell (now (plan .entry)) ⌝ }
 {
-    plan[1482] as usize
+    plan[1518] as usize
 }
 
 // The number of rules.
-pub fn rule_count(plan: &[u64; 1484]) -> usize
+pub fn rule_count(plan: &[u64; 1520]) -> usize
     ensures { λ x. ⌜ x ≡ rulesCell (now (plan .entry)) ⌝ }
 {
-    plan[1483] as usize
+    plan[1519] as usize
 }
 
 // The length with index l.
-pub fn length(plan: &[u64; 1484], l: usize) -> Units
+pub fn length(plan: &[u64; 1520], l: usize) -> Units
     requires { ⌜ (l < 84) × ((s : Sheet) × Prepared s (now plan)) ⌝ }
     ensures { λ r. ⌜ r .0 ≡ lengthCell (now (plan .entry)) l ⌝ }
 {
@@ -73,13 +98,13 @@ pub fn length(plan: &[u64; 1484], l: usize) -> Units
 }
 
 // The multiplier times the weight of rule r; 0 where there is no rule.
-pub fn cost(plan: &[u64; 1484], r: usize) -> u64
+pub fn cost(plan: &[u64; 1520], r: usize) -> u64
     requires { ⌜ (r < 64) × ((s : Sheet) × Prepared s (now plan)) ⌝ }
     ensures { λ x. ⌜
         (x ≤ 4294836225) × ((s : Sheet) → Prepared s (now (plan .entry)) → x ≡ s .grammar .multiplier * weightAt s r)
         ⌝ }
 {
-    let a = plan[1480];
+    let a = plan[1516];
     let rule = unpacked(plan[r]);
     match rule {
         Rule::Division {
@@ -96,7 +121,7 @@ pub fn cost(plan: &[u64; 1484], r: usize) -> u64
 }
 
 // The length with index l in k parts; arity 0 where k is no arity or there is no such length.
-fn split_by(plan: &[u64; 1484], l: usize, k: usize) -> Split
+fn split_by(plan: &[u64; 1520], l: usize, k: usize) -> Split
     requires { ⌜ l < 84 ⌝ }
     ensures { λ x. ⌜ (x .arity ≤ 8) × ((s : Sheet) → Prepared s (now (plan .entry)) → PartsOf s l k x) ⌝ }
 {
@@ -107,7 +132,7 @@ fn split_by(plan: &[u64; 1484], l: usize, k: usize) -> Split
         return Split { arity: 0, part: 0 };
     }
     let part = plan[724 + 9 * l + k];
-    if plan[1482] <= part {
+    if plan[1518] <= part {
         return Split { arity: 0, part: 0 };
     }
     Split {
@@ -117,7 +142,7 @@ fn split_by(plan: &[u64; 1484], l: usize, k: usize) -> Split
 }
 
 // How rule r divides an interval of nonterminal q and the length with index l.
-pub fn split_at(plan: &[u64; 1484], q: usize, l: usize, r: usize) -> Split
+pub fn split_at(plan: &[u64; 1520], q: usize, l: usize, r: usize) -> Split
     requires { ⌜ (r < 64) × (l < 84) ⌝ }
     ensures { λ x. ⌜ (x .arity ≤ 8) × ((s : Sheet) → Prepared s (now (plan .entry)) → l < lengths s → SplitAt s q l r x) ⌝ }
 {
@@ -142,7 +167,7 @@ pub fn split_at(plan: &[u64; 1484], q: usize, l: usize, r: usize) -> Split
 }
 
 // Whether rule r is a leaf of nonterminal q with this n.
-pub fn is_leaf(plan: &[u64; 1484], r: usize, q: usize, n: usize) -> bool
+pub fn is_leaf(plan: &[u64; 1520], r: usize, q: usize, n: usize) -> bool
     requires { ⌜ r < 64 ⌝ }
     ensures { λ x. ⌜ ((s : Sheet) → Prepared s (now (plan .entry)) → LeafRule s r q n x) ⌝ }
 {

@@ -1,6 +1,6 @@
 -- What the functions that solve rows ask of each other and tell each other: `lift` of `solve`, `part` of `lift`, `solve` of `parts`.
 use Prim.Native.Nat.{ℕ, _+_, _-_, _*_, _≤_, _<_}
-use mathlib.Core.Path.{_≡_, sym, ap, _∙_}
+use mathlib.Core.Path.{_≡_, refl, sym, ap, _∙_}
 use mathlib.Core.List.{List, [], _∷_}
 use native.Mathlib.Nat.{mul-le-mul-right}
 use native.Mathlib.Omega.{arith}
@@ -14,7 +14,7 @@ use Rattle.trees.specs.LeastTotal.{NONE, cellOf}
 use Rattle.expansions.specs.Tables.{lastUnit}
 use Rattle.expansions.specs.Items.{itemOf}
 use Rattle.expansions.specs.Places.{first-most}
-use Rattle.plan.specs.Plan.{lengthAt, leastLeaf, leafCell, lengthCell, rulesCell, ruleCount, Divides}
+use Rattle.plan.specs.Plan.{lengthAt, leastLeaf, leafCell, lengthCell, firstCell, lastCell, ruleCount, DivisionsIn, Divides}
 use Rattle.plan.specs.PlanLaws.{lengths-most, least-leaf-most, length-positive}
 use Rattle.rows.specs.declared.table.Bar.{Bar}
 use Rattle.rows.specs.Vectors.{vec, Low}
@@ -24,7 +24,7 @@ use Rattle.rows.specs.Rows.{leafTotal, LeafEntry, SlotEntry}
 use Rattle.rows.specs.NameLaws.{stands-near, stands-length, stands-head, stands-len, stands-next, stands-some, stands-none}
 use Rattle.rows.specs.NameLaws.{slot-entry}
 use Rattle.rows.specs.CellLaws.{cell-leaf}
-use Rattle.rows.specs.TurnLaws.{taken-none, taken-empty}
+use Rattle.rows.specs.TurnLaws.{taken-none, taken-empty, Ruled, ruled-past, ruled-all}
 
 -- ---- `lift` calls `place_of` and `solve`
 
@@ -166,15 +166,31 @@ module _ {s : Sheet} {plan units rows : List ℕ} {bar : Bar} {q l : ℕ} {left 
 
 module _ {s : Sheet} {plan units rows : List ℕ} {bar : Bar} {q l : ℕ} {left : Units} {from c at : ℕ}
     (e : SolveEntry s plan units rows bar q l left from c at) where
-  -- a rule below the count
-  pub rule-in : {n : ℕ} → n ≡ rulesCell plan → (n ≡ ruleCount s) × (n ≤ 64)
-  rule-in k =
-      let prepared = e .entry .stands .in-bar .prepared in
-      (k ∙ prepared .rules-are, omega (arith, k, prepared .rules-are, prepared .good .most))
+  divisions : DivisionsIn s q (firstCell plan q) (lastCell plan q)
+  divisions = e .entry .stands .in-bar .prepared .divisions q (stands-head (e .entry .stands))
 
-  -- and past the last
-  pub rules-end : {n r : ℕ} → n ≡ rulesCell plan → r ≤ n → n ≤ r → r ≡ ruleCount s
-  rules-end k low high = omega (arith, rule-in k .0)
+  -- the loop ends within the rules
+  pub last-in : {n : ℕ} → n ≡ lastCell plan q → (n ≤ ruleCount s) × (n ≤ 64)
+  last-in k =
+      let prepared = e .entry .stands .in-bar .prepared in
+      (omega (arith, k, divisions .to-in), omega (arith, k, divisions .to-in, prepared .good .most))
+
+  -- the first r rules are done, and there are so many
+  abbrev pub Done : (now : List ℕ) (r : ℕ) (o : List ℕ) → Type 0
+  Done now r o = (r ≤ ruleCount s) × Ruled s now (itemAt s q l left) c r o
+
+  -- those before the first division are idle, and those from the last on
+  pub rules-begin : {r : ℕ} {now o : List ℕ} → r ≡ firstCell plan q → Ruled s now (itemAt s q l left) c 0 o → Done now r o
+  rules-begin {r} k p = (
+    omega (arith, k, divisions .from-in),
+    ruled-past s q l left 0 r (omega arith) p (λ i _ less w ks rule _. omega (arith, k, divisions .within i w ks rule .0)),
+  )
+
+  pub rules-end : {n r : ℕ} {now o : List ℕ} → n ≡ lastCell plan q → n ≤ r → Done now r o → Row s now (itemAt s q l left) c o
+  rules-end {r = r} k high done =
+      ruled-all (e .entry .stands .in-bar .prepared .good) (e .entry .few) refl
+      (ruled-past s q l left r (ruleCount s) (done .0) (done .1)
+      (λ i least _ w ks rule _. omega (arith, k, divisions .within i w ks rule .1)))
 
   module _ {r k h : ℕ} (d : Divides s q l r k h) where
     pub parts-entry : {now : List ℕ} → Sound s now → PartsEntry s plan units now bar r k h left from c

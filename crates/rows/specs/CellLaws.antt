@@ -34,7 +34,7 @@ totalBy s g c m r =
     ruleTotal (instanceOf s) (s .grammar .multiplier) NONE (λ parts k. forward carries NONE (cellOf s) parts (only NONE k) m) g c r
 
 -- the same of a division; the cap of any other rule
-abbrev divisionBy : Option Rule → ℕ → ℕ
+abbrev pub divisionBy : Option Rule → ℕ → ℕ
 divisionBy none x = NONE
 divisionBy (some (leaf h w n)) x = NONE
 divisionBy (some (division h w ks)) x = x
@@ -43,7 +43,7 @@ unfoldable pub divisionTotal : Sheet → Item → (c m r : ℕ) → ℕ
 divisionTotal s g c m r = divisionBy (ruleAt s r) (totalBy s g c m r)
 
 -- the token kind of so few placed onsets is their number
-token-small : (c : ℕ) → c < 4 → token c ≡ c
+pub token-small : (c : ℕ) → c < 4 → token c ≡ c
 token-small zero h = refl
 token-small (suc zero) h = refl
 token-small (suc (suc zero)) h = refl
@@ -56,7 +56,7 @@ leaf-head e = cc
 leaf-n : {h w n h′ w′ n′ : ℕ} → some (leaf h w n) ≡ some (leaf h′ w′ n′) → n ≡ n′
 leaf-n e = cc
 
-leaf-no-division : {h w n h′ w′ : ℕ} {ks : List ℕ} → some (leaf h w n) ≡ some (division h′ w′ ks) → ⊥
+pub leaf-no-division : {h w n h′ w′ : ℕ} {ks : List ℕ} → some (leaf h w n) ≡ some (division h′ w′ ks) → ⊥
 leaf-no-division e = let f : false ≡ true = cc in false≢true f
 
 -- a carry state that is none of the four

@@ -10,3 +10,5 @@ pub mod PartLaws
 pub mod TurnLaws
 pub mod LeafLaws
 pub mod CallLaws
+pub mod SavedLaws
+pub mod IdleLaws

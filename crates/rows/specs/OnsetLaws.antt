@@ -66,7 +66,7 @@ module _ (s : Sheet) (good : GoodOnsets (s .playing)) where
 
 -- ---- the onsets of a bar
 
-largest-le : (f : ℕ → ℕ) (n i : ℕ) → i < n → f i ≤ largest f n
+pub largest-le : (f : ℕ → ℕ) (n i : ℕ) → i < n → f i ≤ largest f n
 unfolding largest
 largest-le f zero i h = let none : ⊥ = omega arith in absurd none
 largest-le f (suc n) i h = elim (ℕ-discrete i n) [

@@ -1,6 +1,6 @@
 -- What one turn of the loops does: one carry state more of a part, one rule more of an item. A turn that lowers nothing is idle.
-use Prim.Native.Nat.{ℕ, suc, _+_, _*_, _≤_, _<_, min}
-use mathlib.Core.Path.{_≡_, refl, sym, ap, _∙_}
+use Prim.Native.Nat.{ℕ, zero, suc, _+_, _-_, _*_, _≤_, _<_, min}
+use mathlib.Core.Path.{_≡_, refl, sym, ap, subst, _∙_}
 use mathlib.Core.List.{List, [], _∷_}
 use native.Mathlib.Numerals.{add-one}
 use native.Mathlib.Omega.{arith}
@@ -9,7 +9,7 @@ use Rattle.sheet.specs.declared.clock.Units.{Units}
 use Rattle.sheet.specs.Sheet.{Sheet}
 use Rattle.sheet.specs.Good.{GoodRules}
 use Rattle.derivations.specs.Derivation.{Item}
-use Rattle.derivations.specs.Minima.{lowest, lowest-cap, only}
+use Rattle.derivations.specs.Minima.{lowest, only}
 use Rattle.derivations.specs.Table.{forward}
 use Rattle.trees.specs.ValidTrees.{weightAt}
 use Rattle.trees.specs.Instance.{onsetsIn}
@@ -40,14 +40,6 @@ module _ {s : Sheet} {rows : List ℕ} {g : Item} {v : List ℕ} {m : ℕ} {o : 
   pub taken-more : {after y o′ : List ℕ} → Row s after g m y → o′ ≡ lowered o (getD v m 0) y → Taken s after g v (m + 1) o′
   unfolding lowest
   taken-more row e = record { is = rw add-one (lowered-vec (upTo m) (cellOf s g m) (getD v m 0) (p .is) (row .is) e); sound = row .sound }
-
-  -- from one that is not
-  pub taken-idle : NONE ≤ getD v m 0 → Taken s rows g v (m + 1) o
-  unfolding lowest
-  taken-idle h = record {
-    is = rw add-one (p .is ∙ vec-same (upTo m) (upTo (suc m)) (λ x k. omega (arith, lowest-cap NONE (λ c. getD v c 0 + cellOf s g c x) m)));
-    sound = p .sound;
-  }
 
 -- a part without an onset: the least leaf of each kind, and nothing is carried on
 pub taken-empty : {s : Sheet} {rows : List ℕ} (g : Item) (v leaves : List ℕ) (x : ℕ) → GoodRules (s .grammar)
@@ -148,3 +140,20 @@ module _ (s : Sheet) (q l : ℕ) (left : Units) {rows : List ℕ} {c n : ℕ} {o
 
       same : (x : ℕ) → x < 4 → min (ruledTo s g c n x) (a + total x) ≡ ruledTo s g c (suc n) x
       same x k = omega (arith, is-total x)
+
+-- k rules on end that do not divide the item
+pub ruled-through : (s : Sheet) (q l : ℕ) (left : Units) {rows : List ℕ} {c : ℕ} {o : List ℕ} (n k : ℕ)
+    → Ruled s rows (itemAt s q l left) c n o → ((i : ℕ) → n ≤ i → i < n + k → NoDivision s q l i)
+    → Ruled s rows (itemAt s q l left) c (n + k) o
+ruled-through s q l left {rows} {c} {o} n zero p idle = subst (λ (m : ℕ). Ruled s rows (itemAt s q l left) c m o) (omega arith) p
+ruled-through s q l left {rows} {c} {o} n (suc k) p idle =
+    subst (λ (m : ℕ). Ruled s rows (itemAt s q l left) c m o) (omega arith)
+    (ruled-idle s q l left (ruled-through s q l left n k p (λ i least less. idle i least (omega arith)))
+    (idle (n + k) (omega arith) (omega arith)))
+
+-- the first m rules where those from n on do not divide the item
+pub ruled-past : (s : Sheet) (q l : ℕ) (left : Units) {rows : List ℕ} {c : ℕ} {o : List ℕ} (n m : ℕ) → n ≤ m
+    → Ruled s rows (itemAt s q l left) c n o → ((i : ℕ) → n ≤ i → i < m → NoDivision s q l i) → Ruled s rows (itemAt s q l left) c m o
+ruled-past s q l left {rows} {c} {o} n m h p idle =
+    subst (λ (j : ℕ). Ruled s rows (itemAt s q l left) c j o) (omega arith)
+    (ruled-through s q l left n (m - n) p (λ i least less. idle i least (omega arith)))

@@ -1,16 +1,19 @@
 // The table of rows. A row is named by a length, the place in its bar of the first onset inside, a nonterminal and a carry state; its first
 // number bears the bar's stamp, so that nothing is cleared between bars.
 ghost use mathlib.Core.Path.{_≡_};
+ghost use mathlib.Core.Bool.{true};
 ghost use Prim.Native.Nat.{ℕ, _+_, _-_, _*_, _<_, _≤_};
-ghost use lib.ListN.{length};
+ghost use lib.ListN.{length, getD};
 ghost use Rattle.sheet.specs.Sheet.{Sheet};
 ghost use Rattle.trees.specs.LeastTotal.{NONE};
 ghost use Rattle.expansions.specs.Tables.{UnitsHeld, lastUnit};
 ghost use Rattle.expansions.specs.Items.{firstAt, itemOf};
+ghost use Rattle.plan.specs.Plan.{Prepared};
 ghost use Rattle.rows.specs.Vectors.{vec, Low};
 ghost use Rattle.rows.specs.Memo.{rowAt, stored};
 ghost use Rattle.rows.specs.Rows.{itemAt, slotOf, Entry, Row, SolveEntry, PartsEntry, Parted, PartEntry, LiftEntry, Taken};
 ghost use Rattle.rows.specs.Rows.{leafTotal, LeafEntry, SlotEntry};
+ghost use Rattle.rows.specs.IdleLaws.{Idle};
 use crate::vector::NONE;
 use crate::vector::dot;
 use crate::vector::least;
@@ -21,11 +24,13 @@ use expansions::place;
 use expansions::token_of;
 use plan::child;
 use plan::cost;
+use plan::first_division;
+use plan::last_division;
 use plan::least_leaf;
 use plan::length;
 use plan::length_count;
 use plan::nonterminals;
-use plan::rule_count;
+use plan::saved;
 use plan::split_at;
 use sheet::Units;
 
@@ -76,7 +81,7 @@ pub fn first_behind(units: &[u32; 513], from: usize, right: Units) -> usize
 }
 
 // The place of the row of an item in the table.
-fn place_of(plan: &[u64; 1484], bar: Bar, q: usize, l: usize, from: usize, c: usize) -> usize
+fn place_of(plan: &[u64; 1520], bar: Bar, q: usize, l: usize, from: usize, c: usize) -> usize
     requires { ⌜ ((s : Sheet) × SlotEntry s (now plan) bar q l from c) ⌝ }
     ensures { λ r. ⌜ ((s : Sheet) → SlotEntry s (now (plan .entry)) bar q l from c → r ≡ 4 * slotOf s q l (from - bar .first) c) ⌝ }
 {
@@ -86,7 +91,7 @@ fn place_of(plan: &[u64; 1484], bar: Bar, q: usize, l: usize, from: usize, c: us
 
 // What a leaf over an interval totals, by carry state behind it; the whole row of an interval without an onset.
 pub fn leaf_row<'a>(
-    plan: &'a [u64; 1484],
+    plan: &'a [u64; 1520],
     units: &'a [u32; 513],
     q: usize,
     over: Interval,
@@ -108,9 +113,27 @@ pub fn leaf_row<'a>(
     relax(none, x, only_at(late))
 }
 
+// Whether carry state c lowers nothing: it is not reached, or carrying nothing is cheaper by all that c can save.
+pub fn idle(plan: &[u64; 1520], v: [u64; 4], c: usize) -> bool
+    requires { ⌜ (c < 4) × Low v × ((s : Sheet) × Prepared s (now plan)) ⌝ }
+    ensures { λ r. ⌜ ((s : Sheet) → Prepared s (now (plan .entry)) → r ≡ true → Idle s (λ i. getD v i 0) c) ⌝ }
+{
+    let a = v[c];
+    if a >= NONE {
+        return true;
+    }
+    if c == 0 {
+        return false;
+    }
+    if v[0] + saved(plan, c) <= a {
+        return true;
+    }
+    false
+}
+
 // The row of an item from carry state c.
 pub fn cells<'a>(
-    plan: &'a [u64; 1484],
+    plan: &'a [u64; 1520],
     units: &'a [u32; 513],
     rows: &mut [u64],
     bar: Bar,
@@ -138,9 +161,10 @@ pub fn cells<'a>(
     solve(plan, units, rows, bar, q, l, left, from, c, at)
 }
 
-// Solves the row of an item with an onset inside, and stores it at its place.
+// Solves the row of an item with an onset inside, and stores it at its place. Rules before the first division of the nonterminal or behind
+// the last are not met.
 fn solve<'a>(
-    plan: &'a [u64; 1484],
+    plan: &'a [u64; 1520],
     units: &'a [u32; 513],
     rows: &mut [u64],
     bar: Bar,
@@ -161,10 +185,10 @@ fn solve<'a>(
         left: Units(left.0),
         len: length(plan, l),
     };
-    let n = rule_count(plan);
+    let last = last_division(plan, q);
     let mut best = leaf_row(plan, units, q, over, from, c);
-    let mut r: usize = 0;
-    while r < n {
+    let mut r = first_division(plan, q);
+    while r < last {
         let rule = r;
         r += 1;
         let split = split_at(plan, q, l, rule);
@@ -182,7 +206,7 @@ fn solve<'a>(
 
 // What the parts of rule r total, k of the length with index l from `left` on, from carry state c to each.
 pub fn parts<'a>(
-    plan: &'a [u64; 1484],
+    plan: &'a [u64; 1520],
     units: &'a [u32; 513],
     rows: &mut [u64],
     bar: Bar,
@@ -219,7 +243,7 @@ pub fn parts<'a>(
 
 // The vector v, taken over one part; `to` is the place of the first onset behind it.
 fn part<'a>(
-    plan: &'a [u64; 1484],
+    plan: &'a [u64; 1520],
     units: &'a [u32; 513],
     rows: &mut [u64],
     bar: Bar,
@@ -252,9 +276,9 @@ fn part<'a>(
     lift(plan, units, rows, bar, q, l, left, from, v, 3, y)
 }
 
-// One carry state more of a part with an onset inside.
+// One carry state more of a part with an onset inside; an idle one is left out.
 fn lift<'a>(
-    plan: &'a [u64; 1484],
+    plan: &'a [u64; 1520],
     units: &'a [u32; 513],
     rows: &mut [u64],
     bar: Bar,
@@ -272,10 +296,10 @@ fn lift<'a>(
         → Taken s (now (rows .exit)) (itemAt s q l left) v (c + 1) r)
         ⌝ }
 {
-    let a = v[c];
-    if a >= NONE {
+    if idle(plan, v, c) {
         return o;
     }
+    let a = v[c];
     let at = place_of(plan, bar, q, l, from, c);
     if rows[at] / MARK == (bar.number as u64) + 1 {
         let y = load(&rows[..], at);

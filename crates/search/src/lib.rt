@@ -43,7 +43,7 @@ fn clear(cells: &mut [u64], n: usize)
 
 // Fills a table with the vector before each bar, and the one behind the last.
 fn vectors_of<'a>(
-    plan: &'a [u64; 1484],
+    plan: &'a [u64; 1520],
     units: &'a [u32; 513],
     rows: &mut [u64],
     vectors: &mut [u64],
@@ -75,7 +75,7 @@ fn vectors_of<'a>(
 
 // Writes the first least lists of the bars, one behind the other; gives the number of bytes.
 fn build_bars<'a>(
-    plan: &'a [u64; 1484],
+    plan: &'a [u64; 1520],
     units: &'a [u32; 513],
     rows: &mut [u64],
     tree: &mut [u8],
@@ -130,7 +130,7 @@ fn build_bars<'a>(
 
 // Finds the first least tree, with so many rows as the sheet needs.
 fn parse<'a>(
-    plan: &'a [u64; 1484],
+    plan: &'a [u64; 1520],
     units: &'a [u32; 513],
     rows: &mut [u64],
     tree: &mut [u8],

@@ -6,17 +6,18 @@ use mir.Syntax.{w32}
 use mir.Val.{Fits}
 use lib.ListN.{getD}
 use native.Mathlib.Omega.{arith}
-use Rattle.plan.proofs.PlanSteps.{Cells, cells-next, few-rules, length-cells, tables-of, prepared}
+use Rattle.plan.proofs.PlanSteps.{Cells, cells-next, few-rules, few-heads, length-cells, tables-of, prepared}
 use Rattle.plan.specs.Sections.{Small}
 use borrow.Author.Needs.{needs}
 use Rattle.plan.proofs.fill.prepare.Statement.{statement}
 use Rattle.plan.proofs.fill.prepare.Tie as tie
 
 abbrev Inv-loop : tie.InvT-loop
-Inv-loop grammar rules children leaves lens count plan₀ i₀ plan i = (i ≤ 1480) × Cells rules children leaves lens count plan i
+Inv-loop grammar rules children leaves lens count n heads plan₀ i₀ plan i =
+    (i ≤ 1516) × Cells rules children leaves lens count n heads plan i
 
 abbrev μ-loop : tie.MeasureT-loop
-μ-loop grammar rules children leaves lens count plan₀ i₀ plan i = 1480 - i
+μ-loop grammar rules children leaves lens count n heads plan₀ i₀ plan i = 1516 - i
 
 pack-rules-requires : tie.Need-pack-rules-requires Inv-loop μ-loop
 pack-rules-requires c κs = search needs
@@ -31,6 +32,9 @@ lengths-requires c κs =
     let start = c .before .before .before .before in
     few-rules (start .args .grammar) (start .pre .0) (start .pre .1) (start .pre .2)
 
+cast-heads : tie.Need-cast-heads Inv-loop μ-loop
+cast-heads c = search needs
+
 loop-holds : tie.Need-loop-holds Inv-loop μ-loop
 loop-holds c = (search needs, record { size = refl; each = λ j l. absurd (omega arith) })
 
@@ -40,7 +44,7 @@ children-small c i = let f : Fits w32 (getD (c .args .grammar .children) i 0) = 
 
 section-at-requires : tie.Need-section-at-requires Inv-loop μ-loop
 section-at-requires c κs =
-    let called = c .before .before .before .before .before .before .before in
+    let called = c .before .before .before .before .before .before .before .before in
     let lengths = called .lengths in
     let start = called .before .before .before .before .before in
     let h = start .pre .0 in
@@ -50,6 +54,8 @@ section-at-requires c κs =
       children-small start,
       (λ i. let f : Fits w32 (getD (lengths .result .cells) i 0) = search needs in f .fits),
       length-cells h good (lengths .result) (lengths .ensures .1 h good (start .pre .2)),
+      few-rules (start .args .grammar) h good (start .pre .2),
+      few-heads (start .args .grammar) h good (start .pre .2),
     )
 
 mul-plan : tie.Need-mul-plan Inv-loop μ-loop
@@ -67,16 +73,13 @@ loop-less c = search needs
 loop-again : tie.Need-loop-again Inv-loop μ-loop
 loop-again c =
     let loop = c .before .before .before .before .before .before in
-    (search needs, cells-next _ _ _ _ _ _ (loop .loop .i) _ (loop .loop .inv .1) (search needs) (c .section-at .ensures))
+    (search needs, cells-next _ _ _ _ _ _ _ _ (loop .loop .i) _ (loop .loop .inv .1) (search needs) (c .section-at .ensures))
 
 cast-plan : tie.Need-cast-plan Inv-loop μ-loop
 cast-plan c = search needs
 
 array-write-plan-2 : tie.Need-array-write-plan-2 Inv-loop μ-loop
 array-write-plan-2 c = search needs
-
-cast-plan-2 : tie.Need-cast-plan-2 Inv-loop μ-loop
-cast-plan-2 c = search needs
 
 array-write-plan-3 : tie.Need-array-write-plan-3 Inv-loop μ-loop
 array-write-plan-3 c = search needs
@@ -89,8 +92,8 @@ array-write-plan-5 c = search needs
 
 returns : tie.Need-returns Inv-loop μ-loop
 returns c =
-    let loop = c .before .before .before in
-    let lengths = loop .before .before in
+    let loop = c .before .before in
+    let lengths = loop .before .before .before in
     let leaves = lengths .before in
     let pack = leaves .before .before .before in
     let g = pack .before .args .grammar in
@@ -108,6 +111,7 @@ prepare-spec =
     pack-rules-requires
     least-leaves-requires
     lengths-requires
+    cast-heads
     loop-holds
     section-at-requires
     mul-plan
@@ -117,7 +121,6 @@ prepare-spec =
     loop-again
     cast-plan
     array-write-plan-2
-    cast-plan-2
     array-write-plan-3
     array-write-plan-4
     array-write-plan-5

@@ -28,10 +28,11 @@ use Rattle.rows.proofs.table.+lift+part+parts+solve.Tie.{close}
 pub +lift+part+parts+solve-spec : {M : Type 1} → statement M
 +lift+part+parts+solve-spec =
     close μ-lift μ-part μ-parts μ-solve
-    (λ t. lift-lts.spec (lift-needs.calls t) (lift-at t) lift.Post (lift-needs.mul-a t) (lift-needs.array-read-a t)
-    (lift-needs.returns t) (lift-needs.place-of-requires t) (lift-needs.mul-if2 t) (lift-needs.slice-read-if2 t) (lift-needs.add-if2 t)
-    (lift-needs.load-requires t) (lift-needs.relax-requires t) (lift-needs.same-length t) (lift-needs.returns-2 t)
-    (lift-needs.solve-requires t) (lift-needs.relax-requires-2 t) (lift-needs.same-length-2 t) (lift-needs.returns-3 t))
+    (λ t. lift-lts.spec (lift-needs.calls t) (lift-at t) lift.Post (lift-needs.idle-requires t) (lift-needs.returns t)
+    (lift-needs.mul-a t) (lift-needs.array-read-a t) (lift-needs.place-of-requires t) (lift-needs.mul-if2 t)
+    (lift-needs.slice-read-if2 t) (lift-needs.add-if2 t) (lift-needs.load-requires t) (lift-needs.relax-requires t)
+    (lift-needs.same-length t) (lift-needs.returns-2 t) (lift-needs.solve-requires t) (lift-needs.relax-requires-2 t)
+    (lift-needs.same-length-2 t) (lift-needs.returns-3 t))
     (λ t. part-lts.spec (part-needs.calls t) (part-at t) part.Post (part-needs.least-leaf-requires t)
     (part-needs.least-leaf-requires-2 t) (part-needs.least-leaf-requires-3 t) (part-needs.least-leaf-requires-4 t)
     (part-needs.dot-requires t) (part-needs.returns t) (part-needs.lift-requires t) (part-needs.lift-requires-2 t)
@@ -41,8 +42,8 @@ pub +lift+part+parts+solve-spec : {M : Type 1} → statement M
     (parts-needs.add-end t) (parts-needs.first-behind-requires t) (parts-needs.part-requires t) (parts-needs.add-j t)
     (parts-needs.loop-less t) (parts-needs.loop-again t) (parts-needs.same-length t) (parts-needs.returns t))
     λ t. solve-lts.spec (solve-needs.calls t) (solve-at t) solve.Post solve-needs.Inv-loop solve-needs.μ-loop
-    (solve-needs.length-requires t) (solve-needs.rule-count-requires t) (solve-needs.leaf-row-requires t) (solve-needs.loop-holds t)
-    (solve-needs.add-r t) (solve-needs.split-at-requires t) (solve-needs.parts-requires t) (solve-needs.cost-requires t)
-    (solve-needs.relax-requires t) (solve-needs.loop-less t) (solve-needs.loop-again t) (solve-needs.loop-less-2 t)
-    (solve-needs.loop-again-2 t) (solve-needs.add-store t) (solve-needs.store-requires t) (solve-needs.same-length t)
-    (solve-needs.returns t)
+    (solve-needs.length-requires t) (solve-needs.last-division-requires t) (solve-needs.leaf-row-requires t)
+    (solve-needs.first-division-requires t) (solve-needs.loop-holds t) (solve-needs.add-r t) (solve-needs.split-at-requires t)
+    (solve-needs.parts-requires t) (solve-needs.cost-requires t) (solve-needs.relax-requires t) (solve-needs.loop-less t)
+    (solve-needs.loop-again t) (solve-needs.loop-less-2 t) (solve-needs.loop-again-2 t) (solve-needs.add-store t)
+    (solve-needs.store-requires t) (solve-needs.same-length t) (solve-needs.returns t)

@@ -1,13 +1,15 @@
--- `lift`: a carry state that is not reached lowers nothing; else the row that is loaded, or solved, is the item's (`taken-more`).
+-- `lift`: an idle carry state lowers nothing (`taken-skip`); else the row that is loaded, or solved, is the item's (`taken-more`).
 use Prim.Native.Nat.{ℕ}
 use native.Mathlib.Omega.{arith}
 use borrow.Author.Needs.{needs}
 use Rattle.rows.specs.NameLaws.{stands-bar, solve-room, solve-loaded}
-use Rattle.rows.specs.TurnLaws.{row-low, taken-more, taken-idle}
+use Rattle.rows.specs.TurnLaws.{row-low, taken-more}
+use Rattle.rows.specs.IdleLaws.{taken-skip}
 use Rattle.rows.specs.CallLaws.{lift-slot, lift-solve}
 use Rattle.rows.proofs.table.lift.Reads as lift
 use Rattle.rows.proofs.table.+lift+part+parts+solve.Lts-lift as lift-lts
 use Rattle.rows.proofs.table.solve.Reads as solve
+use Rattle.rows.proofs.table.idle.Reads as idle-reads
 use Rattle.rows.proofs.table.load.Reads as load-reads
 use Rattle.rows.proofs.table.place_of.Reads as place-of-reads
 use Rattle.rows.proofs.vector.relax.Reads as relax-reads
@@ -17,6 +19,8 @@ module _ (t : ℕ) where
   -- the readings of the callees of `lift`
   abbrev pub calls : lift-lts.Claims
   calls = (
+    idle-reads.Asked,
+    idle-reads.Learnt,
     place-of-reads.Asked,
     place-of-reads.Learnt,
     load-reads.Asked,
@@ -27,54 +31,63 @@ module _ (t : ℕ) where
     solve.Post,
   )
 
+  pub idle-requires : lift-lts.Need-idle-requires calls (lift-at t) lift.Post
+  idle-requires c κs =
+      let start = c .before in
+      let h = start .pre .1 .1 in
+      (h .few, h .low, (start .pre .1 .0, h .stands .in-bar .prepared))
+
+  pub returns : lift-lts.Need-returns calls (lift-at t) lift.Post
+  returns c =
+      let idle = c .before .idle in
+      λ s h.
+      let prepared = h .stands .in-bar .prepared in
+      taken-skip s (prepared .good) _ (h .few) (h .taken) (idle .ensures s prepared (c .if1 .taken))
+
   pub mul-a : lift-lts.Need-mul-a calls (lift-at t) lift.Post
   mul-a c = search needs
 
   pub array-read-a : lift-lts.Need-array-read-a calls (lift-at t) lift.Post
-  array-read-a c = c .before .pre .1 .1 .few
-
-  pub returns : lift-lts.Need-returns calls (lift-at t) lift.Post
-  returns c = λ s h. taken-idle (h .taken) (c .if1 .taken)
+  array-read-a c = let start = c .before .before .before in start .pre .1 .1 .few
 
   pub place-of-requires : lift-lts.Need-place-of-requires calls (lift-at t) lift.Post
   place-of-requires c κs =
-      let start = c .before .before in
+      let start = c .before .before .before in
       (start .pre .1 .0, lift-slot (start .pre .1 .1))
 
   pub mul-if2 : lift-lts.Need-mul-if2 calls (lift-at t) lift.Post
   mul-if2 c =
-      let start = c .before .before .before in
+      let start = c .before .before .before .before in
       let h = start .pre .1 .1 in
       let e = lift-solve h (c .place-of .ensures) in
       omega (arith, solve-room e (h .taken .sound), start .good)
 
   pub slice-read-if2 : lift-lts.Need-slice-read-if2 calls (lift-at t) lift.Post
   slice-read-if2 c =
-      let start = c .before .before .before .before in
+      let start = c .before .before .before .before .before in
       let h = start .pre .1 .1 in
       let e = lift-solve h (c .before .place-of .ensures) in
       omega (arith, solve-room e (h .taken .sound))
 
   pub add-if2 : lift-lts.Need-add-if2 calls (lift-at t) lift.Post
   add-if2 c =
-      let start = c .before .before .before .before in
+      let start = c .before .before .before .before .before in
       omega (arith, stands-bar (start .pre .1 .1 .stands))
 
   pub load-requires : lift-lts.Need-load-requires calls (lift-at t) lift.Post
   load-requires c κs =
-      let start = c .before .before .before .before .before .before in
+      let start = c .before .before .before .before .before .before .before in
       let h = start .pre .1 .1 in
       let e = lift-solve h (c .before .before .before .place-of .ensures) in
       solve-room e (h .taken .sound)
 
   pub relax-requires : lift-lts.Need-relax-requires calls (lift-at t) lift.Post
   relax-requires c κs =
-      let start = c .before .before .before .before .before .before .before in
-      let if1 = c .before .before .before .before .before .if1 in
+      let start = c .before .before .before .before .before .before .before .before in
       let place-of = c .before .before .before .before .place-of in
       let h = start .pre .1 .1 in
       let e = lift-solve h (place-of .ensures) in
-      (omega (arith, if1 .left), row-low (solve-loaded e (c .before .before .if2 .taken) (c .load .ensures)))
+      (h .low (start .args .c), row-low (solve-loaded e (c .before .before .if2 .taken) (c .load .ensures)))
 
   pub same-length : lift-lts.Need-same-length calls (lift-at t) lift.Post
   same-length c = search needs
@@ -88,19 +101,18 @@ module _ (t : ℕ) where
 
   pub solve-requires : lift-lts.Need-solve-requires calls (lift-at t) lift.Post
   solve-requires c κs =
-      let start = c .before .before .before .before .before .before in
+      let start = c .before .before .before .before .before .before .before in
       let h = start .pre .1 .1 in
       let e = lift-solve h (c .before .before .before .place-of .ensures) in
       (omega (arith, start .pre .0), (start .pre .1 .0, e))
 
   pub relax-requires-2 : lift-lts.Need-relax-requires-2 calls (lift-at t) lift.Post
   relax-requires-2 c κs =
-      let start = c .before .before .before .before .before .before .before .before .before in
-      let if1 = c .before .before .before .before .before .before .before .if1 in
+      let start = c .before .before .before .before .before .before .before .before .before .before in
       let place-of = c .before .before .before .before .before .before .place-of in
       let h = start .pre .1 .1 in
       let e = lift-solve h (place-of .ensures) in
-      (omega (arith, if1 .left), row-low (c .before .before .solve .ensures _ e))
+      (h .low (start .args .c), row-low (c .before .before .solve .ensures _ e))
 
   pub same-length-2 : lift-lts.Need-same-length-2 calls (lift-at t) lift.Post
   same-length-2 c = search needs

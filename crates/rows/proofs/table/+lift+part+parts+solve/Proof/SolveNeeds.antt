@@ -1,21 +1,23 @@
--- `solve`: the invariant of the loop is that `best` is the lesser of what a leaf totals and of what the first r rules total that are
--- divisions (`Ruled`), and that the table is sound.
+-- `solve`: the invariant of the loop is that there are r rules or more, that `best` is the lesser of what a leaf totals and of what the
+-- first r rules total that are divisions (`Ruled`), and that the table is sound.
 use Prim.Native.Nat.{ℕ, _-_, _≤_}
 use mathlib.Core.Path.{sym, _∙_}
 use native.Mathlib.Omega.{arith}
 use borrow.Author.Needs.{needs}
 use Rattle.sheet.specs.Sheet.{Sheet}
+use Rattle.plan.specs.Plan.{ruleCount}
 use Rattle.rows.specs.Rows.{itemAt, SolveEntry}
-use Rattle.rows.specs.NameLaws.{stands-bar, stands-length, solve-room, solve-stored}
+use Rattle.rows.specs.NameLaws.{stands-bar, stands-length, stands-head, solve-room, solve-stored}
 use Rattle.rows.specs.PartLaws.{parted-low}
-use Rattle.rows.specs.TurnLaws.{Ruled, ruled-low, ruled-none, ruled-all, ruled-idle, ruled-more}
-use Rattle.rows.specs.CallLaws.{leaf-entry, leaf-told, rule-in, rules-end, parts-entry, parts-shorter}
+use Rattle.rows.specs.TurnLaws.{Ruled, ruled-low, ruled-none, ruled-idle, ruled-more}
+use Rattle.rows.specs.CallLaws.{leaf-entry, leaf-told, last-in, rules-begin, rules-end, parts-entry, parts-shorter}
 use Rattle.rows.proofs.table.parts.Reads as parts
 use Rattle.rows.proofs.table.solve.Reads as solve
 use Rattle.rows.proofs.table.+lift+part+parts+solve.Lts-solve as solve-lts
 use Rattle.plan.proofs.cost.Reads as cost-reads
+use Rattle.plan.proofs.first_division.Reads as first-division-reads
+use Rattle.plan.proofs.last_division.Reads as last-division-reads
 use Rattle.plan.proofs.length.Reads as length-reads
-use Rattle.plan.proofs.rule_count.Reads as rule-count-reads
 use Rattle.plan.proofs.split_at.Reads as split-at-reads
 use Rattle.rows.proofs.table.leaf_row.Reads as leaf-row-reads
 use Rattle.rows.proofs.table.store.Reads as store-reads
@@ -23,11 +25,11 @@ use Rattle.rows.proofs.vector.relax.Reads as relax-reads
 use Rattle.rows.proofs.table.+lift+part+parts+solve.Proof.Measures.{parts-below, solve-at}
 
 abbrev pub Inv-loop : solve-lts.InvT-loop
-Inv-loop plan us rows₀ bar q l left from c at n best₀ r₀ rows best r =
-    (r ≤ n) × ((s : Sheet) → SolveEntry s plan us rows₀ bar q l left from c at → Ruled s rows (itemAt s q l left) c r best)
+Inv-loop plan us rows₀ bar q l left from c at last best₀ r₀ rows best r =
+    (s : Sheet) → SolveEntry s plan us rows₀ bar q l left from c at → (r ≤ ruleCount s) × Ruled s rows (itemAt s q l left) c r best
 
 abbrev pub μ-loop : solve-lts.MeasureT-loop
-μ-loop plan us rows₀ bar q l left from c at n best₀ r₀ rows best r = n - r
+μ-loop plan us rows₀ bar q l left from c at last best₀ r₀ rows best r = last - r
 
 module _ (t : ℕ) where
   -- the readings of the callees of `solve`
@@ -35,10 +37,12 @@ module _ (t : ℕ) where
   calls = (
     length-reads.Asked,
     length-reads.Learnt,
-    rule-count-reads.Asked,
-    rule-count-reads.Learnt,
+    last-division-reads.Asked,
+    last-division-reads.Learnt,
     leaf-row-reads.Asked,
     leaf-row-reads.Learnt,
+    first-division-reads.Asked,
+    first-division-reads.Learnt,
     split-at-reads.Asked,
     split-at-reads.Learnt,
     parts-below t,
@@ -57,8 +61,8 @@ module _ (t : ℕ) where
       let e = start .pre .1 .1 in
       (stands-length (e .entry .stands), (start .pre .1 .0, e .entry .stands .in-bar .prepared))
 
-  pub rule-count-requires : solve-lts.Need-rule-count-requires calls (solve-at t) solve.Post Inv-loop μ-loop
-  rule-count-requires c κs = search needs
+  pub last-division-requires : solve-lts.Need-last-division-requires calls (solve-at t) solve.Post Inv-loop μ-loop
+  last-division-requires c κs = let start = c .before .before in stands-head (start .pre .1 .1 .entry .stands)
 
   pub leaf-row-requires : solve-lts.Need-leaf-row-requires calls (solve-at t) solve.Post Inv-loop μ-loop
   leaf-row-requires c κs =
@@ -66,47 +70,51 @@ module _ (t : ℕ) where
       let e = start .pre .1 .1 in
       (start .pre .1 .0, leaf-entry (e .entry) (c .before .length .ensures))
 
+  pub first-division-requires : solve-lts.Need-first-division-requires calls (solve-at t) solve.Post Inv-loop μ-loop
+  first-division-requires c κs = let start = c .before .before .before .before in stands-head (start .pre .1 .1 .entry .stands)
+
   pub loop-holds : solve-lts.Need-loop-holds calls (solve-at t) solve.Post Inv-loop μ-loop
   loop-holds c =
-      let length = c .before .before .length in (
-        omega arith,
-        λ s e.
-            let told = leaf-told (e .entry) (length .ensures) (c .leaf-row .ensures s (leaf-entry (e .entry) (length .ensures))) in
-            ruled-none _ _ told (e .entry .sound),
-      )
+      let length = c .before .before .before .length in
+      λ s e.
+      let told = leaf-told (e .entry) (length .ensures) (c .before .leaf-row .ensures s (leaf-entry (e .entry) (length .ensures))) in
+      rules-begin e (c .first-division .ensures) (ruled-none _ _ told (e .entry .sound))
 
   pub add-r : solve-lts.Need-add-r calls (solve-at t) solve.Post Inv-loop μ-loop
-  add-r c = search needs
+  add-r c =
+      let start = c .before .before .before .before .before .before .before in
+      let last = last-in (start .pre .1 .1) (c .before .before .before .before .last-division .ensures) in
+      omega (arith, c .loop-test .taken, last .1)
 
   pub split-at-requires : solve-lts.Need-split-at-requires calls (solve-at t) solve.Post Inv-loop μ-loop
   split-at-requires c κs =
-      let start = c .before .before .before .before .before .before in
-      let rule-count = c .before .before .before .rule-count in
+      let start = c .before .before .before .before .before .before .before in
+      let last-division = c .before .before .before .before .last-division in
       let loop-test = c .loop-test in
       let e = start .pre .1 .1 in
-      (omega (arith, loop-test .taken, rule-in e (rule-count .ensures) .1), stands-length (e .entry .stands))
+      (omega (arith, loop-test .taken, last-in e (last-division .ensures) .1), stands-length (e .entry .stands))
 
   pub parts-requires : solve-lts.Need-parts-requires calls (solve-at t) solve.Post Inv-loop μ-loop
   parts-requires c κs =
-      let start = c .before .before .before .before .before .before .before .before .before in
+      let start = c .before .before .before .before .before .before .before .before .before .before in
       let loop = c .before .before .before .before .loop in
       let split-at = c .before .before .split-at in
       let if1 = c .before .if1 in
       let e = start .pre .1 .1 in
       let d = split-at .ensures .1 _ (e .entry .stands .in-bar .prepared) (e .entry .stands .length-in) .divides (if1 .taken) in
-      (omega (arith, start .pre .0, parts-shorter e d), (start .pre .1 .0, parts-entry e d (loop .inv .1 _ e .sound)))
+      (omega (arith, start .pre .0, parts-shorter e d), (start .pre .1 .0, parts-entry e d (loop .inv _ e .1 .sound)))
 
   pub cost-requires : solve-lts.Need-cost-requires calls (solve-at t) solve.Post Inv-loop μ-loop
   cost-requires c κs =
-      let start = c .before .before .before .before .before .before .before .before .before .before .before .before in
-      let rule-count = c .before .before .before .before .before .before .before .before .before .rule-count in
+      let start = c .before .before .before .before .before .before .before .before .before .before .before .before .before in
+      let last-division = c .before .before .before .before .before .before .before .before .before .before .last-division in
       let loop-test = c .before .before .before .before .before .before .loop-test in
       let e = start .pre .1 .1 in
-      (omega (arith, loop-test .taken, rule-in e (rule-count .ensures) .1), (start .pre .1 .0, e .entry .stands .in-bar .prepared))
+      (omega (arith, loop-test .taken, last-in e (last-division .ensures) .1), (start .pre .1 .0, e .entry .stands .in-bar .prepared))
 
   pub relax-requires : solve-lts.Need-relax-requires calls (solve-at t) solve.Post Inv-loop μ-loop
   relax-requires c κs =
-      let start = c .before .before .before .before .before .before .before .before .before .before .before .before .before in
+      let start = c .before .before .before .before .before .before .before .before .before .before .before .before .before .before in
       let loop = c .before .before .before .before .before .before .before .before .loop in
       let split-at = c .before .before .before .before .before .before .split-at in
       let if1 = c .before .before .before .before .before .if1 in
@@ -114,24 +122,27 @@ module _ (t : ℕ) where
       let cost = c .cost in
       let e = start .pre .1 .1 in
       let d = split-at .ensures .1 _ (e .entry .stands .in-bar .prepared) (e .entry .stands .length-in) .divides (if1 .taken) in
-      (omega (arith, cost .ensures .0), parted-low (d .rule) (parts .ensures _ (parts-entry e d (loop .inv .1 _ e .sound))))
+      (omega (arith, cost .ensures .0), parted-low (d .rule) (parts .ensures _ (parts-entry e d (loop .inv _ e .1 .sound))))
 
   pub loop-less : solve-lts.Need-loop-less calls (solve-at t) solve.Post Inv-loop μ-loop
   loop-less c = search needs
 
   pub loop-again : solve-lts.Need-loop-again calls (solve-at t) solve.Post Inv-loop μ-loop
   loop-again c =
-      let loop = c .before .before .before .before .before .before .before .before .before .loop in
+      let back = c .before .before .before .before .before .before .before .before .before in
+      let last-division = back .before .before .before .last-division in
+      let loop = back .loop in
       let loop-test = c .before .before .before .before .before .before .before .before .loop-test in
       let split-at = c .before .before .before .before .before .before .before .split-at in
       let if1 = c .before .before .before .before .before .before .if1 in
-      let parts = c .before .before .before .before .parts in (
-        omega (arith, loop-test .taken),
-        λ s e.
-            let prepared = e .entry .stands .in-bar .prepared in
-            let d = split-at .ensures .1 s prepared (e .entry .stands .length-in) .divides (if1 .taken) in
-            ruled-more s _ _ _ (loop .inv .1 s e) (prepared .good) d (e .inhabited) (c .before .cost .ensures .1 s prepared)
-            (parts .ensures s (parts-entry e d (loop .inv .1 s e .sound))) (c .relax .ensures),
+      let parts = c .before .before .before .before .parts in
+      λ s e.
+      let prepared = e .entry .stands .in-bar .prepared in
+      let d = split-at .ensures .1 s prepared (e .entry .stands .length-in) .divides (if1 .taken) in
+      let done = loop .inv s e .1 in (
+        omega (arith, loop-test .taken, last-in e (last-division .ensures) .0),
+        ruled-more s _ _ _ done (prepared .good) d (e .inhabited) (c .before .cost .ensures .1 s prepared)
+            (parts .ensures s (parts-entry e d (done .sound))) (c .relax .ensures),
       )
 
   pub loop-less-2 : solve-lts.Need-loop-less-2 calls (solve-at t) solve.Post Inv-loop μ-loop
@@ -139,45 +150,42 @@ module _ (t : ℕ) where
 
   pub loop-again-2 : solve-lts.Need-loop-again-2 calls (solve-at t) solve.Post Inv-loop μ-loop
   loop-again-2 c =
+      let last-division = c .before .before .before .before .before .before .last-division in
       let loop = c .before .before .before .loop in
       let loop-test = c .before .before .loop-test in
       let split-at = c .before .split-at in
-      let if1 = c .if1 in (
-        omega (arith, loop-test .taken),
-        λ s e.
-            let t = e .entry .stands in
-            ruled-idle s _ _ _ (loop .inv .1 s e) (split-at .ensures .1 s (t .in-bar .prepared) (t .length-in) .idle (if1 .left)),
+      let if1 = c .if1 in
+      λ s e.
+      let t = e .entry .stands in (
+        omega (arith, loop-test .taken, last-in e (last-division .ensures) .0),
+        ruled-idle s _ _ _ (loop .inv s e .1) (split-at .ensures .1 s (t .in-bar .prepared) (t .length-in) .idle (if1 .left)),
       )
 
   pub add-store : solve-lts.Need-add-store calls (solve-at t) solve.Post Inv-loop μ-loop
   add-store c =
-      let start = c .before .before .before .before .before .before .before in
+      let start = c .before .before .before .before .before .before .before .before in
       omega (arith, stands-bar (start .pre .1 .1 .entry .stands))
 
   pub store-requires : solve-lts.Need-store-requires calls (solve-at t) solve.Post Inv-loop μ-loop
   store-requires c κs =
-      let start = c .before .before .before .before .before .before .before in
+      let start = c .before .before .before .before .before .before .before .before in
       let e = start .pre .1 .1 in
-      let p = c .before .before .loop .inv .1 _ e in
+      let p = c .before .before .loop .inv _ e .1 in
       (solve-room e (p .sound), omega (arith, stands-bar (e .entry .stands)), ruled-low p)
 
   pub same-length : solve-lts.Need-same-length calls (solve-at t) solve.Post Inv-loop μ-loop
   same-length c =
-      let start = c .before .before .before .before .before .before .before .before .before .before in
-      let rule-count = c .before .before .before .before .before .before .before .rule-count in
+      let start = c .before .before .before .before .before .before .before .before .before .before .before in
+      let last-division = c .before .before .before .before .before .before .before .before .last-division in
       let loop = c .before .before .before .before .before .loop in
       let loop-test = c .before .before .before .before .loop-test in
       let e = start .pre .1 .1 in
-      let all = rules-end e (rule-count .ensures) (loop .inv .0) (loop-test .left) in
-      let row = ruled-all (e .entry .stands .in-bar .prepared .good) (e .entry .few) all (loop .inv .1 _ e) in
+      let row = rules-end e (last-division .ensures) (loop-test .left) (loop .inv _ e) in
       solve-stored e row (c .before .before .store .ensures) .sound .size ∙ sym (e .entry .sound .size)
 
   pub returns : solve-lts.Need-returns calls (solve-at t) solve.Post Inv-loop μ-loop
   returns c =
-      let rule-count = c .before .before .before .before .before .before .before .rule-count in
+      let last-division = c .before .before .before .before .before .before .before .before .last-division in
       let loop = c .before .before .before .before .before .loop in
       let loop-test = c .before .before .before .before .loop-test in
-      λ s e.
-      let all = rules-end e (rule-count .ensures) (loop .inv .0) (loop-test .left) in
-      let row = ruled-all (e .entry .stands .in-bar .prepared .good) (e .entry .few) all (loop .inv .1 s e) in
-      solve-stored e row (c .before .before .store .ensures)
+      λ s e. solve-stored e (rules-end e (last-division .ensures) (loop-test .left) (loop .inv s e)) (c .before .before .store .ensures)

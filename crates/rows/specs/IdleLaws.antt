@@ -12,9 +12,10 @@ use Rattle.sheet.specs.Good.{GoodRules}
 use Rattle.derivations.specs.Derivation.{Item}
 use Rattle.derivations.specs.Minima.{lowest, lowest-cap, lowest-le}
 use Rattle.trees.specs.LeastTotal.{NONE, cellOf}
+use Rattle.plan.specs.Plan.{savedBy}
 use Rattle.rows.specs.VectorLaws.{vec-same}
 use Rattle.rows.specs.Rows.{Taken}
-use Rattle.rows.specs.SavedLaws.{savedBy, cell-saved}
+use Rattle.rows.specs.SavedLaws.{cell-saved}
 
 -- carry state c of the vector v is not reached, or carrying nothing is cheaper by all that c can save
 abbrev pub Idle : Sheet → (v : ℕ → ℕ) (c : ℕ) → Type 0

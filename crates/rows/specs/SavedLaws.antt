@@ -1,6 +1,6 @@
 -- What carried onsets can save. Those carried into an item are placed at its first leaf, so they change the kind of that leaf alone, and
 -- save at most what they save at some leaf. Assumes nothing.
-use Prim.Native.Nat.{ℕ, zero, suc, _+_, _-_, _/_, _≤_, _<_, min}
+use Prim.Native.Nat.{ℕ, zero, suc, _+_, _/_, _≤_, _<_, min}
 use mathlib.Core.Path.{_≡_, refl, sym, ap, _∙_}
 use mathlib.Core.List.{List, [], _∷_}
 use mathlib.Core.Logic.{inl, inr}
@@ -24,8 +24,8 @@ use Rattle.trees.specs.Expansions.{DivisionStep, step-of, division-expands}
 use Rattle.trees.specs.Laws.{falls}
 use Rattle.trees.specs.Room.{good-division}
 use Rattle.sizes.specs.Sizes.{largest}
-use Rattle.plan.specs.Plan.{ruleCount, leafCost, leastLeaf}
-use Rattle.plan.specs.PlanLaws.{least-leaf-most}
+use Rattle.plan.specs.Plan.{ruleCount, leafCost, leastLeaf, savedAt, savedBy}
+use Rattle.plan.specs.PlanLaws.{least-leaf-most, token-below}
 use Rattle.rows.specs.VectorLaws.{lowest-none}
 use Rattle.rows.specs.OnsetLaws.{largest-le}
 use Rattle.rows.specs.Rows.{leafTotal}
@@ -33,16 +33,6 @@ use Rattle.rows.specs.CellLaws.{token-small, leaf-no-division, totalBy, 
 use Rattle.rows.specs.CellLaws.{cell-none, cell-split, total-none, total-some}
 
 -- ---- what a carry saves
-
--- by how much a leaf of nonterminal q that e onsets are early in is cheaper with c onsets carried in than with none; 0 where it is not. A
--- leaf that no rule makes costs the cap, and is not cheaper than any.
-abbrev pub savedAt : Sheet → (q c e : ℕ) → ℕ
-savedAt s q c e = leastLeaf s q e - leastLeaf s q (token (c + e))
-
--- the most of it, over all nonterminals and kinds
-unfoldable pub savedBy : Sheet → (c : ℕ) → ℕ
-unfolding largest leastLeaf
-savedBy s c = largest (λ q. largest (savedAt s q c) 4) (s .grammar .nonterminals)
 
 largest-under : (f : ℕ → ℕ) (n m : ℕ) → ((i : ℕ) → i < n → f i ≤ m) → largest f n ≤ m
 unfolding largest
@@ -60,12 +50,6 @@ saved-most s c = saved-under s c NONE (λ q e _. omega (arith, least-leaf-most s
 -- nothing where nothing is carried
 pub saved-none : (s : Sheet) → savedBy s 0 ≡ 0
 saved-none s = omega (arith, saved-under s 0 0 (λ q e b. rw (zero-add e, token-small e b) (omega arith)))
-
-token-below : (e : ℕ) → token e < 4
-token-below zero = omega arith
-token-below (suc zero) = omega arith
-token-below (suc (suc zero)) = omega arith
-token-below (suc (suc (suc e))) = omega arith
 
 token-many : (n : ℕ) → 3 ≤ n → token n ≡ 3
 token-many zero h = let none : ⊥ = omega arith in absurd none

@@ -1,0 +1,38 @@
+-- Steps of finding what carried onsets can save, kind after kind and nonterminal after nonterminal.
+use Prim.Native.Nat.{ℕ, _+_, _-_, _*_, _<_, max}
+use mathlib.Core.Path.{_≡_, refl, ap, _∙_}
+use mathlib.Core.List.{List}
+use native.Mathlib.Numerals.{add-one}
+use native.Mathlib.Omega.{arith}
+use lib.ListN.{getD}
+use Rattle.sheet.specs.Sheet.{Sheet}
+use Rattle.trees.specs.ValidTrees.{token}
+use Rattle.sizes.specs.Sizes.{largest}
+use Rattle.plan.specs.Plan.{leastLeaf, savedAt, savedBy}
+use Rattle.plan.specs.PlanLaws.{token-below}
+use Rattle.plan.specs.Sections.{LeastLeaves}
+
+pub largest-none : (f : ℕ → ℕ) → 0 ≡ largest f 0
+unfolding largest
+largest-none f = refl
+
+-- one number more
+pub largest-next : (f : ℕ → ℕ) (i : ℕ) (m x y : ℕ) → m ≡ largest f i → x ≡ f i → y ≡ max m x → y ≡ largest f (i + 1)
+unfolding largest
+largest-next f i m x y em ex ey = rw add-one (omega (arith, em, ex, ey))
+
+-- the cells of two kinds
+pub saved-cell : (s : Sheet) (leaves : List ℕ) → LeastLeaves s leaves → (q c e k : ℕ) → q < 16 → e < 4 → k ≡ token (c + e)
+    → getD leaves (4 * q + e) 0 - getD leaves (4 * q + k) 0 ≡ savedAt s q c e
+saved-cell s leaves t q c e k hq he ek =
+    omega (
+      arith,
+      t q e hq he,
+      t q k hq (omega (arith, ek, token-below (c + e))),
+      ap (leastLeaf s q) ek,
+    )
+
+-- all nonterminals
+pub saved-all : (s : Sheet) (c n m : ℕ) → m ≡ largest (λ q. largest (savedAt s q c) 4) n → n ≡ s .grammar .nonterminals → m ≡ savedBy s c
+unfolding savedBy
+saved-all s c n m e k = e ∙ ap (largest (λ q. largest (savedAt s q c) 4)) k
