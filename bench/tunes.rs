@@ -75,16 +75,16 @@ fn played_near(dice: &mut Dice, place: usize) -> usize {
 // The heaviest sheets.
 
 /// 64 rules of 16 nonterminals over 64 bars of eight onsets anywhere. The first
-/// nonterminals, as many as `dividing`, have a division of each arity into each
-/// other; leaves fill the rest. Few that divide much are heavier than many that
-/// divide little: more rows are reached.
-fn heaviest(dividing: usize, arities: &[usize]) -> Vec<u8> {
+/// nonterminals, as many as `dividing`, have a division of each of their arities
+/// into each other; leaves fill the rest. Few that divide much are heavier than
+/// many that divide little: more rows are reached.
+fn heaviest(dividing: usize, arities: impl Fn(usize) -> Vec<usize>) -> Vec<u8> {
     const NONTERMINALS: usize = 16;
     const BARS: usize = 64;
     let mut dice = Dice::new(64);
     let mut lines = vec![vec![0x47, NONTERMINALS as u8, 0, 0, 1]];
     for head in 0..dividing {
-        for &arity in arities {
+        for arity in arities(head) {
             let mut line = light(sheets::division(&mut dice, dividing, arity), &mut dice);
             line[1] = head as u8;
             lines.push(line);
@@ -106,10 +106,16 @@ fn light(mut line: Vec<u8>, dice: &mut Dice) -> Vec<u8> {
 
 /// Twelve nonterminals in halves and thirds.
 pub fn plain() -> Vec<u8> {
-    heaviest(12, &[2, 3])
+    heaviest(12, |_| vec![2, 3])
 }
 
-/// Six nonterminals in parts of every number, so that all 84 lengths are met.
+/// All nonterminals in parts of two numbers each, so that all 84 lengths are met.
+pub fn wide() -> Vec<u8> {
+    heaviest(16, |head| vec![2 + head % 7, 2 + (head + 3) % 7])
+}
+
+/// Six nonterminals in parts of every number, so that all 84 lengths are met by
+/// each.
 pub fn dense() -> Vec<u8> {
-    heaviest(6, &[2, 3, 4, 5, 6, 7, 8])
+    heaviest(6, |_| (2..=8).collect())
 }

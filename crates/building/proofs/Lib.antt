@@ -1,4 +1,3 @@
-mod RestSteps
-mod RuleSteps
-pub mod BuildSteps
+mod BehindSteps
+mod BuildSteps
 mod PartSteps

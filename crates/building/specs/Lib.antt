@@ -1,3 +1,5 @@
 pub mod Rebuilding
-pub mod RebuildLaws
 pub mod RuleLaws
+pub mod ServingLaws
+pub mod ChoosingLaws
+pub mod RebuildLaws

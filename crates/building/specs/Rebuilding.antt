@@ -1,8 +1,8 @@
--- The search over a row of items: the vectors behind them from right to left, and the first least list from left to right. What the
--- functions are given, and what they give.
+-- Writing the first least list of an item, from its row and the vector behind it. What the functions are given, and what they give.
 use Prim.Native.Nat.{ℕ, _+_, _*_, _≤_, _<_}
 use mathlib.Core.Path.{_≡_}
 use mathlib.Core.List.{List, [], _∷_, _++_}
+use mathlib.Core.Logic.{_⊎_}
 use lib.ListN.{length, drop, getD}
 use Rattle.slices.specs.Over.{overFrom}
 use Rattle.sheet.specs.declared.clock.Units.{Units}
@@ -16,12 +16,12 @@ use Rattle.trees.specs.ValidTrees.{row}
 use Rattle.trees.specs.Instance.{instanceOf}
 use Rattle.trees.specs.LeastTotal.{NONE, carries, cellOf}
 use Rattle.trees.specs.Room.{room}
-use Rattle.expansions.specs.declared.Placed.{Placed}
-use Rattle.expansions.specs.Items.{Counts}
 use Rattle.plan.specs.Plan.{lengthAt, ruleCount}
-use Rattle.rows.specs.declared.table.Bar.{Bar}
+use Rattle.rows.specs.declared.slots.Bar.{Bar}
 use Rattle.rows.specs.Vectors.{vec, Low}
-use Rattle.rows.specs.Rows.{itemAt, Sound, Stands, Entry, PartsEntry, partsAt}
+use Rattle.rows.specs.PackedLaws.{packedCell}
+use Rattle.rows.specs.Slots.{itemAt, Sound}
+use Rattle.rows.specs.Rows.{Entry, PartsEntry, partsAt}
 use Rattle.building.specs.declared.Built.{Built}
 
 -- ---- vectors behind items
@@ -34,29 +34,36 @@ at v m = getD v m 0
 abbrev pub behind : Sheet → List Item → (ℕ → ℕ) → ℕ → ℕ
 behind s gs v = backward carries NONE (cellOf s) gs v
 
--- an item that stands, with the vector v behind it
-pub record BeforeEntry (s : Sheet) (plan units rows : List ℕ) (bar : Bar) (q l : ℕ) (left : Units) (from : ℕ) (v : List ℕ) : Type 0 where
-  pub stands : Stands s plan units bar q l left from
-  pub low : Low v
-  pub sound : Sound s rows
-
--- x is the vector before items with v behind them, and the table is sound
-pub record Before (s : Sheet) (rows : List ℕ) (gs : List Item) (v x : List ℕ) : Type 0 where
-  pub is : x ≡ vec (behind s gs (at v))
-  pub low : Low x
-  pub sound : Sound s rows
-
 -- the parts of a division from part j on
 abbrev pub partsFrom : Sheet → (l : ℕ) → Units → List ℕ → ℕ → List Item
 partsFrom s l left kids j = row (left .0 + j * lengthAt s l) (lengthAt s l) (drop j kids)
 
--- the parts of a rule from part `first` on, with the vector v behind them
-pub record RestEntry (s : Sheet) (plan units rows : List ℕ) (bar : Bar) (r k l : ℕ) (left : Units) (from first : ℕ) (v : List ℕ) : Type 0
+-- no least list passes carry state m between an item with the totals y and the items behind it: there is none to m, or through 0 is cheaper
+abbrev pub Barred : Sheet → List Item → (y v : ℕ → ℕ) → ℕ → Type 0
+Barred s gs y v m = (NONE ≤ y m) ⊎ (y 0 + behind s gs v 0 < y m + behind s gs v m)
+
+-- w is what the items total with v behind them, or the cap where no least list passes
+abbrev pub Passed : Sheet → List Item → (y v : ℕ → ℕ) → (m w : ℕ) → Type 0
+Passed s gs y v m w = (w ≡ behind s gs v m) ⊎ (Barred s gs y v m × (NONE ≤ w))
+
+-- the parts of rule r from part i on, k of the length with index l from `left` on, behind an item with the totals y
+pub record BehindEntry (s : Sheet) (plan units rows : List ℕ) (bar : Bar) (r i k l : ℕ) (left : Units) (from c : ℕ) (y v : List ℕ) : Type 0
   where
-    pub parts : PartsEntry s plan units rows bar r k l left from 0
-    pub part-in : first ≤ k
+    pub parts : PartsEntry s plan units rows bar r i k l left from c
+    pub low-row : Low y
     pub low : Low v
-    pub four : length v ≡ 4
+
+-- w is what they total from c, or the cap
+pub record PassedAs (s : Sheet) (rows : List ℕ) (gs : List Item) (y v : List ℕ) (c w : ℕ) : Type 0 where
+  pub is : Passed s gs (at y) (at v) c w
+  pub low : w ≤ NONE
+  pub sound : Sound s rows
+
+-- w is the vector before those parts
+pub record Behind (s : Sheet) (rows : List ℕ) (gs : List Item) (y v w : List ℕ) : Type 0 where
+  pub each : (m : ℕ) → m < carries → Passed s gs (at y) (at v) m (at w m)
+  pub low : Low w
+  pub sound : Sound s rows
 
 -- ---- choosing a rule
 
@@ -64,36 +71,11 @@ pub record RestEntry (s : Sheet) (plan units rows : List ℕ) (bar : Bar) (r k l
 unfoldable pub restTotal : Sheet → Item → (ℕ → ℕ) → (c r : ℕ) → ℕ
 restTotal s g v c r = ruleTotal (instanceOf s) (s .grammar .multiplier) NONE (λ parts. behind s parts v) g c r
 
--- `goal` is the least total of the items from c on, and there is one
-pub record Goal (s : Sheet) (gs : List Item) (v : ℕ → ℕ) (c goal : ℕ) : Type 0 where
-  pub is : goal ≡ behind s gs v c
-  pub reached : goal < NONE
-
--- rule r is tried at an item, at which a leaf does `placed` with the onsets inside
-pub record RuleEntry (s : Sheet) (plan units rows : List ℕ) (bar : Bar) (q l : ℕ) (left : Units) (from c : ℕ) (v : List ℕ) (placed : Placed)
-    (r : ℕ) : Type 0 where
-  pub entry : Entry s plan units rows bar q l left from c
-  pub low : Low v
-  pub counts : Counts s (left .0) (lengthAt s l) (placed .early) (placed .late) (placed .distance)
-  pub rule-in : r < ruleCount s
-
--- x is what rule r totals
-pub record Totalled (s : Sheet) (rows : List ℕ) (g : Item) (v : ℕ → ℕ) (c r x : ℕ) : Type 0 where
-  pub is : x ≡ restTotal s g v c r
-  pub sound : Sound s rows
-
--- a rule is chosen that totals `goal`
-pub record ChooseEntry (s : Sheet) (plan units rows : List ℕ) (bar : Bar) (q l : ℕ) (left : Units) (from c : ℕ) (v : List ℕ) (goal : ℕ)
-    : Type 0 where
-  pub entry : Entry s plan units rows bar q l left from c
-  pub low : Low v
-  pub due : Goal s (itemAt s q l left ∷ []) (at v) c goal
-
--- r is the first rule at the item that comes to the least total
-pub record Chosen (s : Sheet) (rows : List ℕ) (g : Item) (v : ℕ → ℕ) (c goal r : ℕ) : Type 0 where
+-- r is the first rule at the item that comes to the least total, and there is one
+pub record Chosen (s : Sheet) (g : Item) (v : ℕ → ℕ) (c r : ℕ) : Type 0 where
   pub place : FirstPlace (restTotal s g v c) (ruleCount s) r
-  pub total : restTotal s g v c r ≡ goal
-  pub sound : Sound s rows
+  pub total : restTotal s g v c r ≡ behind s (g ∷ []) v c
+  pub reached : behind s (g ∷ []) v c < NONE
 
 -- ---- building
 
@@ -107,34 +89,33 @@ pub record BuiltAs (s : Sheet) (rows tree after : List ℕ) (gs : List Item) (v 
   pub written : after ≡ overFrom to bytes tree
   pub sound : Sound s rows
 
--- an item is built
-pub record BuildEntry (s : Sheet) (plan units rows tree : List ℕ) (bar : Bar) (q l : ℕ) (left : Units) (from c : ℕ) (v : List ℕ)
-    (goal to : ℕ) : Type 0 where
+-- an item is built, of which y is the row
+pub record BuildEntry (s : Sheet) (plan units rows tree : List ℕ) (bar : Bar) (q l : ℕ) (left : Units) (from c : ℕ) (y v : List ℕ) (to : ℕ)
+    : Type 0 where
   pub entry : Entry s plan units rows bar q l left from c
+  pub row-is : y ≡ vec (packedCell s (itemAt s q l left) c)
   pub low : Low v
-  pub four : length v ≡ 4
-  pub due : Goal s (itemAt s q l left ∷ []) (at v) c goal
+  pub reached : behind s (itemAt s q l left ∷ []) (at v) c < NONE
   pub fits : to + room s (itemAt s q l left) ≤ length tree
 
 -- the parts of a rule are built
 pub record PartsBuildEntry (s : Sheet) (plan units rows tree : List ℕ) (bar : Bar) (r k l : ℕ) (left : Units) (from c : ℕ) (v : List ℕ)
-    (goal to : ℕ) : Type 0 where
-  pub parts : PartsEntry s plan units rows bar r k l left from c
+    (to : ℕ) : Type 0 where
+  pub parts : PartsEntry s plan units rows bar r 0 k l left from c
   pub low : Low v
-  pub four : length v ≡ 4
-  pub due : Goal s (partsAt s l left (parts .divides .parts)) (at v) c goal
+  pub reached : behind s (partsAt s l left (parts .divides .parts)) (at v) c < NONE
   pub fits : to + sumOf (room s) (partsAt s l left (parts .divides .parts)) ≤ length tree
 
 -- Building a row of items `gs` from left to right: `rest` is to come. What is written is the front of the first least list, whatever the
 -- rest of it is.
-pub record Partway (s : Sheet) (tree after : List ℕ) (gs rest : List Item) (v : ℕ → ℕ) (c to : ℕ) (carry goal next : ℕ) : Type 0 where
+pub record Partway (s : Sheet) (tree after : List ℕ) (gs rest : List Item) (v : ℕ → ℕ) (c to : ℕ) (carry next : ℕ) : Type 0 where
   pub bytes : List ℕ
   pub price : Price
   pub carry-is : carry ≡ price .carry
   pub few : carry < carries
   pub and-then : (xs : List ℕ) (q : Price) → First (instanceOf s) (s .grammar .multiplier) rest v carry xs q
       → First (instanceOf s) (s .grammar .multiplier) gs v c (bytes ++ xs) (price ⊞ q)
-  pub due : Goal s rest v carry goal
+  pub reached : behind s rest v carry < NONE
   pub next-is : next ≡ to + length bytes
   pub written : after ≡ overFrom to bytes tree
   pub fits : next + sumOf (room s) rest ≤ length tree

@@ -1,28 +1,31 @@
-// Items from right to left and back: the vector of least totals before some items, and the first least list of them.
+// Writing the first least list of an item: the rule is told by the item's row and the vector behind it, and then its parts are written from
+// left to right, each with the vector of those behind it.
+ghost use mathlib.Core.Path.{_≡_};
 ghost use mathlib.Core.List.{[], _∷_};
-ghost use Prim.Native.Nat.{_+_, _*_, _<_};
-ghost use lib.ListN.{length};
+ghost use Prim.Native.Nat.{_<_};
+ghost use lib.ListN.{drop};
 ghost use Rattle.sheet.specs.Sheet.{Sheet};
 ghost use Rattle.trees.specs.LeastTotal.{NONE};
-ghost use Rattle.rows.specs.Rows.{itemAt, partsAt};
-ghost use Rattle.building.specs.Rebuilding.{at, BeforeEntry, Before, partsFrom, RestEntry, RuleEntry, Totalled, ChooseEntry, Chosen};
-ghost use Rattle.building.specs.Rebuilding.{BuildEntry, PartsBuildEntry, BuiltAs};
+ghost use Rattle.rows.specs.Vectors.{Low, LowCells};
+ghost use Rattle.rows.specs.Slots.{itemAt};
+ghost use Rattle.rows.specs.Rows.{partsAt};
+ghost use Rattle.building.specs.Rebuilding.{at, BehindEntry, PassedAs, Behind, BuildEntry, PartsBuildEntry, BuiltAs};
+ghost use Rattle.building.specs.ChoosingLaws.{leastCell};
 use expansions::Interval;
-use expansions::Placed;
 use expansions::place;
-use expansions::token_of;
 use plan::child;
-use plan::cost;
-use plan::is_leaf;
 use plan::length;
-use plan::rule_count;
 use plan::split_at;
-use rows::table::Bar;
+use rows::slots::Bar;
+use rows::slots::first_behind;
 use rows::table::cells;
-use rows::table::first_behind;
+use rows::table::idle;
 use rows::table::parts;
+use rows::vector::NO_CELL;
 use rows::vector::NONE;
 use rows::vector::dot;
+use rows::vector::least;
+use rows::vector::totals;
 use sheet::Units;
 
 // How far a tree is built: the place of its next byte, and the carry state behind it.
@@ -31,148 +34,81 @@ pub struct Built {
     pub carry: usize,
 }
 
-// The vector before an item with the vector v behind it.
-pub fn before<'a>(
-    plan: &'a [u64; 1520],
-    units: &'a [u32; 513],
-    rows: &mut [u64],
-    bar: Bar,
-    q: usize,
-    l: usize,
-    left: Units,
-    from: usize,
-    v: [u64; 4],
-) -> [u64; 4]
-    requires { ⌜ ((s : Sheet) × BeforeEntry s (now plan) (now units) (now rows) bar q l left from v) ⌝ }
-    ensures { λ r. ⌜
-        ((s : Sheet) → BeforeEntry s (now (plan .entry)) (now (units .entry)) (now (rows .entry)) bar q l left from v
-        → Before s (now (rows .exit)) (itemAt s q l left ∷ []) v r)
-        ⌝ }
+// The least sum of a row and 64 times a vector. The remainder by 64 is the first rule that comes to the least total.
+fn least_cell(y: [u64; 4], v: [u64; 4]) -> u64
+    requires { ⌜ LowCells y × Low v ⌝ }
+    ensures { λ r. ⌜ r ≡ leastCell y v ⌝ }
 {
-    let a = cells(plan, units, rows, bar, q, l, left, from, 0);
-    let b = cells(plan, units, rows, bar, q, l, left, from, 1);
-    let c = cells(plan, units, rows, bar, q, l, left, from, 2);
-    let d = cells(plan, units, rows, bar, q, l, left, from, 3);
-    [dot(a, v), dot(b, v), dot(c, v), dot(d, v)]
+    let a = least(NO_CELL, y[0] + 64 * v[0]);
+    let b = least(a, y[1] + 64 * v[1]);
+    let c = least(b, y[2] + 64 * v[2]);
+    least(c, y[3] + 64 * v[3])
 }
 
-// The vector before the parts of rule r from part `first` on, k of the length with index l from `left` on, with the vector v behind them.
-fn before_parts<'a>(
-    plan: &'a [u64; 1520],
+// What the parts of rule r from part i on total from carry state c with the vector v behind them; NONE where c is idle by the totals y of the
+// item before them, since no least list passes it.
+fn passed<'a>(
+    plan: &'a [u64; 3055],
     units: &'a [u32; 513],
     rows: &mut [u64],
     bar: Bar,
     r: usize,
+    i: usize,
     k: usize,
     l: usize,
     left: Units,
     from: usize,
-    first: usize,
+    c: usize,
+    y: [u64; 4],
+    v: [u64; 4],
+) -> u64
+    requires { ⌜ (i < k) × ((s : Sheet) × BehindEntry s (now plan) (now units) (now rows) bar r i k l left from c y v) ⌝ }
+    ensures { λ w. ⌜
+        ((s : Sheet) (e : BehindEntry s (now (plan .entry)) (now (units .entry)) (now (rows .entry)) bar r i k l left from c y v)
+        → PassedAs s (now (rows .exit)) (partsAt s l left (drop i (e .parts .divides .parts))) y v c w)
+        ⌝ }
+{
+    if idle(plan, y, c) {
+        return NONE;
+    }
+    let x = parts(plan, units, rows, bar, r, i, k, l, left, from, c);
+    dot(x, v)
+}
+
+// The vector before the parts of rule r from part i on, with v behind them and the totals y of the item before them.
+fn behind<'a>(
+    plan: &'a [u64; 3055],
+    units: &'a [u32; 513],
+    rows: &mut [u64],
+    bar: Bar,
+    r: usize,
+    i: usize,
+    k: usize,
+    l: usize,
+    left: Units,
+    from: usize,
+    y: [u64; 4],
     v: [u64; 4],
 ) -> [u64; 4]
-    requires { ⌜ ((s : Sheet) × RestEntry s (now plan) (now units) (now rows) bar r k l left from first v) ⌝ }
-    ensures { λ x. ⌜
-        ((s : Sheet) (e : RestEntry s (now (plan .entry)) (now (units .entry)) (now (rows .entry)) bar r k l left from first v)
-        → Before s (now (rows .exit)) (partsFrom s l left (e .parts .divides .parts) first) v x)
+    requires { ⌜ ((s : Sheet) × BehindEntry s (now plan) (now units) (now rows) bar r i k l left from 0 y v) ⌝ }
+    ensures { λ w. ⌜
+        ((s : Sheet) (e : BehindEntry s (now (plan .entry)) (now (units .entry)) (now (rows .entry)) bar r i k l left from 0 y v)
+        → Behind s (now (rows .exit)) (partsAt s l left (drop i (e .parts .divides .parts))) y v w)
         ⌝ }
 {
-    let len = length(plan, l).0;
-    let mut x = v;
-    let mut j = k;
-    while first < j {
-        j -= 1;
-        let lo = left.0 + (j as u32) * len;
-        let at = first_behind(units, from, Units(lo));
-        let q = child(plan, r, j);
-        let y = before(plan, units, rows, bar, q, l, Units(lo), at, x);
-        x = y;
+    if k <= i {
+        return v;
     }
-    x
+    let a = passed(plan, units, rows, bar, r, i, k, l, left, from, 0, y, v);
+    let b = passed(plan, units, rows, bar, r, i, k, l, left, from, 1, y, v);
+    let c = passed(plan, units, rows, bar, r, i, k, l, left, from, 2, y, v);
+    let d = passed(plan, units, rows, bar, r, i, k, l, left, from, 3, y, v);
+    [a, b, c, d]
 }
 
-// What rule r totals at an item from carry state c with the vector v behind it: a leaf, which does `placed` with the onsets inside, or a
-// division; NONE where it is not allowed.
-fn rule_total<'a>(
-    plan: &'a [u64; 1520],
-    units: &'a [u32; 513],
-    rows: &mut [u64],
-    bar: Bar,
-    q: usize,
-    l: usize,
-    left: Units,
-    from: usize,
-    c: usize,
-    v: [u64; 4],
-    placed: Placed,
-    r: usize,
-) -> u64
-    requires { ⌜ ((s : Sheet) × RuleEntry s (now plan) (now units) (now rows) bar q l left from c v placed r) ⌝ }
-    ensures { λ x. ⌜
-        ((s : Sheet) → RuleEntry s (now (plan .entry)) (now (units .entry)) (now (rows .entry)) bar q l left from c v placed r
-        → Totalled s (now (rows .exit)) (itemAt s q l left) (at v) c r x)
-        ⌝ }
-{
-    let early = placed.early;
-    let late = placed.late;
-    if is_leaf(plan, r, q, token_of(c + early) as usize) {
-        if 3 < late {
-            return NONE;
-        }
-        return cost(plan, r) + placed.distance + v[late];
-    }
-    let split = split_at(plan, q, l, r);
-    let k = split.arity;
-    let h = split.part;
-    if k == 0 {
-        return NONE;
-    }
-    if early + late == 0 {
-        return NONE;
-    }
-    let y = parts(plan, units, rows, bar, r, k, h, left, from, c);
-    cost(plan, r) + dot(y, v)
-}
-
-// The first rule at an item that comes to the least total, which is `goal`.
-fn choose<'a>(
-    plan: &'a [u64; 1520],
-    units: &'a [u32; 513],
-    rows: &mut [u64],
-    bar: Bar,
-    q: usize,
-    l: usize,
-    left: Units,
-    from: usize,
-    c: usize,
-    v: [u64; 4],
-    goal: u64,
-) -> usize
-    requires { ⌜ ((s : Sheet) × ChooseEntry s (now plan) (now units) (now rows) bar q l left from c v goal) ⌝ }
-    ensures { λ r. ⌜
-        (r < 64) × ((s : Sheet) → ChooseEntry s (now (plan .entry)) (now (units .entry)) (now (rows .entry)) bar q l left from c v goal
-        → Chosen s (now (rows .exit)) (itemAt s q l left) (at v) c goal r)
-        ⌝ }
-{
-    let over = Interval {
-        left: Units(left.0),
-        len: length(plan, l),
-    };
-    let placed = place(units, over, from);
-    let n = rule_count(plan);
-    let mut r: usize = 0;
-    while r < n {
-        let x = rule_total(plan, units, rows, bar, q, l, left, from, c, v, placed, r);
-        if x == goal {
-            return r;
-        }
-        r += 1;
-    }
-    0
-}
-
-// Writes the first least list of an item from byte `to` on.
+// Writes the first least list of an item from byte `to` on: y is its row from carry state c, and v the vector behind it.
 pub fn build<'a>(
-    plan: &'a [u64; 1520],
+    plan: &'a [u64; 3055],
     units: &'a [u32; 513],
     rows: &mut [u64],
     tree: &mut [u8],
@@ -182,18 +118,18 @@ pub fn build<'a>(
     left: Units,
     from: usize,
     c: usize,
+    y: [u64; 4],
     v: [u64; 4],
-    goal: u64,
     to: usize,
 ) -> Built
-    requires { ⌜ ((s : Sheet) × BuildEntry s (now plan) (now units) (now rows) (now tree) bar q l left from c v goal to) ⌝ }
+    requires { ⌜ ((s : Sheet) × BuildEntry s (now plan) (now units) (now rows) (now tree) bar q l left from c y v to) ⌝ }
     ensures { λ b. ⌜
         ((s : Sheet)
-        → BuildEntry s (now (plan .entry)) (now (units .entry)) (now (rows .entry)) (now (tree .entry)) bar q l left from c v goal to
+        → BuildEntry s (now (plan .entry)) (now (units .entry)) (now (rows .entry)) (now (tree .entry)) bar q l left from c y v to
         → BuiltAs s (now (rows .exit)) (now (tree .entry)) (now (tree .exit)) (itemAt s q l left ∷ []) (at v) c to b)
         ⌝ }
 {
-    let r = choose(plan, units, rows, bar, q, l, left, from, c, v, goal);
+    let r = (least_cell(y, v) % 64) as usize;
     tree[to] = r as u8;
     let split = split_at(plan, q, l, r);
     let k = split.arity;
@@ -209,7 +145,6 @@ pub fn build<'a>(
             carry: placed.late,
         };
     }
-    let rest = goal - cost(plan, r);
     build_parts(
         plan,
         units,
@@ -223,14 +158,13 @@ pub fn build<'a>(
         from,
         c,
         v,
-        rest,
         to + 1,
     )
 }
 
-// Writes the first least lists of the parts of rule r, one behind the other.
+// Writes the first least lists of the parts of rule r, one behind the other, with the vector v behind them.
 fn build_parts<'a>(
-    plan: &'a [u64; 1520],
+    plan: &'a [u64; 3055],
     units: &'a [u32; 513],
     rows: &mut [u64],
     tree: &mut [u8],
@@ -242,14 +176,12 @@ fn build_parts<'a>(
     from: usize,
     c: usize,
     v: [u64; 4],
-    goal: u64,
     to: usize,
 ) -> Built
-    requires { ⌜ ((s : Sheet) × PartsBuildEntry s (now plan) (now units) (now rows) (now tree) bar r k l left from c v goal to) ⌝ }
+    requires { ⌜ ((s : Sheet) × PartsBuildEntry s (now plan) (now units) (now rows) (now tree) bar r k l left from c v to) ⌝ }
     ensures { λ b. ⌜
         ((s : Sheet)
-        (e : PartsBuildEntry s (now (plan .entry)) (now (units .entry)) (now (rows .entry)) (now (tree .entry)) bar r k l left from c v goal
-        to)
+        (e : PartsBuildEntry s (now (plan .entry)) (now (units .entry)) (now (rows .entry)) (now (tree .entry)) bar r k l left from c v to)
         → BuiltAs s (now (rows .exit)) (now (tree .entry)) (now (tree .exit)) (partsAt s l left (e .parts .divides .parts)) (at v) c to b)
         ⌝ }
 {
@@ -258,12 +190,15 @@ fn build_parts<'a>(
     let mut at = from;
     let mut next = to;
     let mut carry = c;
-    let mut due = goal;
     let mut j: usize = 0;
     while j < k {
         let q = child(plan, r, j);
         j += 1;
-        let x = before_parts(plan, units, rows, bar, r, k, l, left, from, j, v);
+        let end = lo + len;
+        let then = first_behind(units, at, Units(end));
+        let y = cells(plan, units, rows, bar, q, l, Units(lo), at, carry);
+        let x = totals(y);
+        let w = behind(plan, units, rows, bar, r, j, k, l, Units(end), then, x, v);
         let b = build(
             plan,
             units,
@@ -275,15 +210,14 @@ fn build_parts<'a>(
             Units(lo),
             at,
             carry,
-            x,
-            due,
+            y,
+            w,
             next,
         );
         next = b.to;
         carry = b.carry;
-        due = x[carry];
-        lo += len;
-        at = first_behind(units, at, Units(lo));
+        lo = end;
+        at = then;
     }
     Built { to: next, carry }
 }

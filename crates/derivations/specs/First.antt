@@ -155,15 +155,3 @@ module _ {P : Instance} {C : ℕ} (L : Lawful P C) (a cap : ℕ) where
               | no ir ↦ let e : r ≡ i = omega arith in inr (e, same i xs q e h k)
             ]
           ]
-
--- another vector that says the same of every carry state below C
-pub first-agree : {P : Instance} {C : ℕ} → Lawful P C → (a : ℕ) (gs : List Item) (v w : ℕ → ℕ) (c : ℕ) (bs : List ℕ) (p : Price) → c < C
-    → ((m : ℕ) → m < C → v m ≡ w m) → First P a gs v c bs p → First P a gs w c bs p
-first-agree {P = P} L a gs v w c bs p hc agree f = record {
-  reads = f .reads;
-  least = λ xs q h. omega (arith, f .least xs q h, same bs p (f .reads), same xs q h);
-  first = λ xs q h k. f .first xs q h (omega (arith, same bs p (f .reads), same xs q h));
-}
-  where
-    same : (xs : List ℕ) (q : Price) → derive P xs gs c ≡ some q → v (q .carry) ≡ w (q .carry)
-    same xs q h = agree (q .carry) (carry-fits L xs gs c q h hc)

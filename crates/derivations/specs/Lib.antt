@@ -7,3 +7,4 @@ pub mod Cells
 pub mod Rebuild
 pub mod Bound
 pub mod Reads
+pub mod Serving

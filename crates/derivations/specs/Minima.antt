@@ -48,6 +48,12 @@ module _ (cap : ℕ) where
         (n, (omega arith, (λ i hi. omega (arith, lowest-le f (suc n) i hi)), λ i hi. omega (arith, lowest-le f n i hi)), omega arith)
   ]
 
+  -- the minimum of values that are no less, or the cap or more, is no less
+  pub lowest-mono : (f g : ℕ → ℕ) (n : ℕ) → ((i : ℕ) → i < n → min cap (f i) ≤ g i) → lowest cap f n ≤ lowest cap g n
+  unfolding lowest
+  lowest-mono f g zero h = omega arith
+  lowest-mono f g (suc n) h = omega (arith, h n (omega arith), lowest-mono f g n (λ i k. h i (omega arith)), lowest-cap f n)
+
   pub lowest-at : (f : ℕ → ℕ) (n : ℕ) → lowest cap f n < cap → (i : ℕ) × (i < n) × (lowest cap f n ≡ f i)
   lowest-at f n h = let (i, place, e) = lowest-first f n h in (i, place .0, e)
 

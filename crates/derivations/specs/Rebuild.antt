@@ -7,11 +7,11 @@ use mathlib.Core.Option.{Option, none, some}
 use native.Mathlib.Omega.{arith}
 use Rattle.slices.specs.Every.{Every, every-all}
 use Rattle.derivations.specs.Derivation.{Item, Expansion, Price, Instance, Lawful, unspent, priceOf, _⊞_}
-use Rattle.derivations.specs.Minima.{lowest, lowest-cap, only, FirstPlace, lowest-first}
-use Rattle.derivations.specs.Least.{Least, least-same, least-nil, least-append, carry-fits}
+use Rattle.derivations.specs.Minima.{lowest, lowest-cap, FirstPlace, lowest-first}
+use Rattle.derivations.specs.Least.{Least, least-same, carry-fits}
 use Rattle.derivations.specs.First.{First, first-nil, first-total, first-append, first-rule}
 use Rattle.derivations.specs.Table.{Cells, via, ruleTotal, LeastParts, rule-opening, rules-least}
-use Rattle.derivations.specs.Table.{backward, forward, Exact, backward-least, parts-least}
+use Rattle.derivations.specs.Table.{backward, Exact, backward-least}
 use Rattle.derivations.specs.Cells.{Falls, EveryPart, depth-rec, cell, cell-exact}
 
 -- there is a first least list
@@ -43,16 +43,6 @@ module _ {P : Instance} {C : ℕ} (L : Lawful P C) (a cap : ℕ) (cell : Cells) 
   rules-backward g v c hc =
       least-same P a cap (g ∷ []) v c _ _ (rules-least L a cap (rest v) g v c (rest-least g v c hc)) (row-least (g ∷ []) v c hc)
       (lowest-cap cap _ (P .count)) (lowest-cap cap _ C)
-
-  -- the forward fold over some items, and then the vector v, is the backward fold
-  pub forward-backward : (g : Item) (gs : List Item) (v : ℕ → ℕ) (c : ℕ) → c < C
-      → lowest cap (λ m. forward C cap cell (g ∷ gs) (only cap c) m + v m) C ≡ backward C cap cell (g ∷ gs) v c
-  unfolding backward
-  forward-backward g gs v c hc =
-      let exacts = every-all (Exact P a cap C cell) exact (g ∷ gs) in
-      let l = least-append L a cap (g ∷ gs) [] v c (forward C cap cell (g ∷ gs) (only cap c)) v hc
-      (λ m hm. parts-least L a cap cell (g ∷ gs) c m hc hm exacts) (λ m hm. least-nil P a cap v m) in
-      least-same P a cap (g ∷ gs) v c _ _ (rw append-nil at l) (row-least (g ∷ gs) v c hc) (lowest-cap cap _ C) (lowest-cap cap _ C)
 
   -- behind a first list the vector is below the cap where the whole is
   pub behind-below : (g : Item) (gs : List Item) (v : ℕ → ℕ) (c : ℕ) (b : List ℕ) (p : Price) → c < C

@@ -1,11 +1,10 @@
--- Steps of lowering the least leaf costs, rule after rule.
+-- Steps of lowering the packed leaf cells, rule after rule.
 use Prim.Native.Nat.{ℕ, _+_, _*_, _≤_, _<_, min}
 use mathlib.Core.Path.{_≡_, refl, sym, ap, subst, _∙_}
 use mathlib.Core.List.{List}
 use mathlib.Core.Logic.{inl, inr}
 use mathlib.Core.Option.{Option, some}
 use native.Mathlib.Decide.{ℕ-discrete}
-use native.Mathlib.Numerals.{add-one}
 use native.Mathlib.Omega.{arith}
 use borrow.Author.Tests.{eq-eqb, ne-eqb}
 use lib.ListN.{length, getD, set, replicate, getD-replicate}
@@ -15,14 +14,15 @@ use Rattle.sheet.specs.declared.table.Rule as held
 use Rattle.sheet.specs.declared.table.Rule.the-variants.{Division, Leaf}
 use Rattle.sheet.specs.Sheet.{Rule, leaf, Sheet}
 use Rattle.sheet.specs.Good.{GoodRule, GoodRules, GoodLeaf}
-use Rattle.derivations.specs.Minima.{lowest, lowest-cap}
+use Rattle.derivations.specs.Minima.{lowest}
 use Rattle.trees.specs.ValidTrees.{ruleAt}
 use Rattle.trees.specs.LeastTotal.{NONE}
 use Rattle.expansions.specs.Tables.{unpackedOf, cellOf, RulesHeld}
 use Rattle.expansions.specs.RuleCells.{leaf-rule, DivisionRule, division-rule}
-use Rattle.plan.specs.Plan.{ruleCount, leafCost, leastLeaf}
+use Rattle.plan.specs.Leaves.{ruleCount, leafCost}
+use Rattle.plan.specs.Packed.{packed, packed-cap, packed-next, packedLeaf}
 use Rattle.plan.proofs.RuleSteps.{cell-read}
-use Rattle.plan.specs.Sections.{LeastLeaves, LeastUpto}
+use Rattle.plan.specs.Sections.{PackedLeaves, PackedUpto}
 
 -- ---- what a rule costs as a leaf
 
@@ -48,37 +48,33 @@ leaf-place s good r h w n e =
 
 -- ---- one rule more
 
-next-lowest : (cap : ℕ) (f : ℕ → ℕ) (i : ℕ) → lowest cap f (i + 1) ≡ min (lowest cap f i) (f i)
-unfolding lowest
-next-lowest cap f i = rw add-one refl
-
 -- what costs the cap lowers nothing
-idle-lowest : (cap : ℕ) (f : ℕ → ℕ) (i : ℕ) → f i ≡ cap → lowest cap f (i + 1) ≡ lowest cap f i
-idle-lowest cap f i e = omega (arith, next-lowest cap f i, lowest-cap cap f i)
+idle-packed : (cap : ℕ) (f : ℕ → ℕ) (i : ℕ) → f i ≡ cap → packed cap f (i + 1) ≡ packed cap f i
+idle-packed cap f i e = omega (arith, packed-next cap f i, packed-cap cap f i)
 
 module _ (s : Sheet) where
   -- no rule has been looked at
-  pub least-none : LeastUpto s (replicate 64 NONE) 0
+  pub packed-none : PackedUpto s (replicate 64 (64 * NONE)) 0
   unfolding lowest
-  least-none q n h k = getD-replicate 64 (4 * q + n) NONE 0 (omega arith)
+  packed-none q n h k = getD-replicate 64 (4 * q + n) (64 * NONE) 0 (omega arith)
 
   -- every rule has
-  pub least-all : (leaves : List ℕ) (i : ℕ) → LeastUpto s leaves i → i ≡ ruleCount s → LeastLeaves s leaves
-  unfolding leastLeaf
-  least-all leaves i so-far e q n h k =
-      so-far q n h k ∙ ap (λ (m : ℕ). lowest NONE (λ r. leafCost (s .grammar .multiplier) q n (ruleAt s r)) m) e
+  pub packed-all : (leaves : List ℕ) (i : ℕ) → PackedUpto s leaves i → i ≡ ruleCount s → PackedLeaves s leaves
+  unfolding packedLeaf
+  packed-all leaves i so-far e q n h k =
+      so-far q n h k ∙ ap (λ (m : ℕ). packed NONE (λ r. leafCost (s .grammar .multiplier) q n (ruleAt s r)) m) e
 
-  module _ (leaves : List ℕ) (i : ℕ) (so-far : LeastUpto s leaves i) where
+  module _ (leaves : List ℕ) (i : ℕ) (so-far : PackedUpto s leaves i) where
     -- no leaf
-    idle : (h w k : ℕ) → DivisionRule (ruleAt s i) h w k → LeastUpto s leaves (i + 1)
+    idle : (h w k : ℕ) → DivisionRule (ruleAt s i) h w k → PackedUpto s leaves (i + 1)
     idle h w k d q n l m =
         so-far q n l m
-        ∙ sym (idle-lowest NONE (λ r. leafCost (s .grammar .multiplier) q n (ruleAt s r)) i (division-cost _ q n (ruleAt s i) h w k d))
+        ∙ sym (idle-packed NONE (λ r. leafCost (s .grammar .multiplier) q n (ruleAt s r)) i (division-cost _ q n (ruleAt s i) h w k d))
 
     -- a leaf, which may lower the cell at its place and leaves the others
     lower : (more : List ℕ) (h w m : ℕ) → ruleAt s i ≡ some (leaf h w m) → m < 4
-        → getD more (4 * h + m) 0 ≡ min (getD leaves (4 * h + m) 0) (s .grammar .multiplier * w)
-        → ((j : ℕ) → (4 * h + m ≡ j → ⊥) → getD more j 0 ≡ getD leaves j 0) → LeastUpto s more (i + 1)
+        → getD more (4 * h + m) 0 ≡ min (getD leaves (4 * h + m) 0) (64 * (s .grammar .multiplier * w) + i)
+        → ((j : ℕ) → (4 * h + m ≡ j → ⊥) → getD more j 0 ≡ getD leaves j 0) → PackedUpto s more (i + 1)
     lower more h w m e four here there q n l k = elim (ℕ-discrete (4 * h + m) (4 * q + n)) [
       | yes same ↦
           let hq : h ≡ q = omega arith in
@@ -86,21 +82,21 @@ module _ (s : Sheet) where
           let f : ℕ → ℕ = λ r. leafCost (s .grammar .multiplier) q n (ruleAt s r) in
           let cost : f i ≡ s .grammar .multiplier * w =
           ap (leafCost (s .grammar .multiplier) q n) e ∙ this-cost (s .grammar .multiplier) h w m q n hq mn in
-          subst (λ (j : ℕ). getD more j 0 ≡ min (getD leaves j 0) (s .grammar .multiplier * w)) same here
-          ∙ ap (λ (x : ℕ). min x (s .grammar .multiplier * w)) (so-far q n l k) ∙ ap (λ (x : ℕ). min (lowest NONE f i) x) (sym cost)
-          ∙ sym (next-lowest NONE f i)
+          subst (λ (j : ℕ). getD more j 0 ≡ min (getD leaves j 0) (64 * (s .grammar .multiplier * w) + i)) same here
+          ∙ ap (λ (x : ℕ). min x (64 * (s .grammar .multiplier * w) + i)) (so-far q n l k)
+          ∙ ap (λ (x : ℕ). min (packed NONE f i) (64 * x + i)) (sym cost) ∙ sym (packed-next NONE f i)
       | no apart ↦
           let f : ℕ → ℕ = λ r. leafCost (s .grammar .multiplier) q n (ruleAt s r) in
           there (4 * q + n) apart ∙ so-far q n l k
-          ∙ sym (idle-lowest NONE f i (ap (leafCost (s .grammar .multiplier) q n) e
+          ∙ sym (idle-packed NONE f i (ap (leafCost (s .grammar .multiplier) q n) e
           ∙ other-cost (s .grammar .multiplier) h w m q n (λ g. apart (omega (arith, g .0, g .1)))))
     ]
 
 -- ---- one turn of the loop
 
--- the first i rules' costs, of any sheet that the tables hold
+-- the first i rules' cells, of any sheet that the tables hold
 abbrev pub Lowered : (rules : List ℕ) (a : ℕ) (leaves : List ℕ) (i : ℕ) → Type 0
-Lowered rules a leaves i = (s : Sheet) → RulesHeld s rules → a ≡ s .grammar .multiplier → LeastUpto s leaves i
+Lowered rules a leaves i = (s : Sheet) → RulesHeld s rules → a ≡ s .grammar .multiplier → PackedUpto s leaves i
 
 module _ (rules : List ℕ) (a : ℕ) (leaves : List ℕ) (i : ℕ) (so-far : Lowered rules a leaves i) (below : i < 64) (rule : held.Rule)
     (is : rule ≡ unpackedOf (getD rules i 0)) where
@@ -119,17 +115,17 @@ module _ (rules : List ℕ) (a : ℕ) (leaves : List ℕ) (i : ℕ) (so-far : Lo
     lowered-past past s t m = absurd (omega (arith, past, leaf-place s (t .good) i h w n (leaf-there s t) .0))
 
     -- it costs no less
-    pub lowered-kept : getD leaves (4 * h + n) 0 ≤ a * w → Lowered rules a leaves (i + 1)
+    pub lowered-kept : getD leaves (4 * h + n) 0 ≤ 64 * (a * w) + i → Lowered rules a leaves (i + 1)
     lowered-kept more s t m =
         let r = leaf-there s t in
         lower s leaves i (so-far s t m) leaves h w n r (leaf-place s (t .good) i h w n r .1)
         (rw (← m) (omega (arith, more))) (λ j f. refl)
 
     -- it costs less
-    pub lowered-set : length leaves ≡ 64 → 4 * h + n < 64 → a * w < getD leaves (4 * h + n) 0
-        → Lowered rules a (set leaves (4 * h + n) (a * w)) (i + 1)
+    pub lowered-set : length leaves ≡ 64 → 4 * h + n < 64 → 64 * (a * w) + i < getD leaves (4 * h + n) 0
+        → Lowered rules a (set leaves (4 * h + n) (64 * (a * w) + i)) (i + 1)
     lowered-set size within less s t m =
         let r = leaf-there s t in
-        lower s leaves i (so-far s t m) (set leaves (4 * h + n) (a * w)) h w n r (leaf-place s (t .good) i h w n r .1)
-        (getD-set-same leaves (4 * h + n) (a * w) 0 (omega arith) ∙ rw (← m) (omega (arith, less)))
-        (λ j f. getD-set-other leaves (4 * h + n) j (a * w) 0 (λ g. f (sym g)))
+        lower s leaves i (so-far s t m) (set leaves (4 * h + n) (64 * (a * w) + i)) h w n r (leaf-place s (t .good) i h w n r .1)
+        (getD-set-same leaves (4 * h + n) (64 * (a * w) + i) 0 (omega arith) ∙ rw (← m) (omega (arith, less)))
+        (λ j f. getD-set-other leaves (4 * h + n) j (64 * (a * w) + i) 0 (λ g. f (sym g)))

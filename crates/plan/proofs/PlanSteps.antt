@@ -15,24 +15,26 @@ use Rattle.sheet.specs.Sheet.{division, Grammar, Sheet}
 use Rattle.sheet.specs.Good.{GoodRules}
 use Rattle.sheet.specs.Held.{partsOf, childCells, grammarTable, noPlaying}
 use Rattle.trees.specs.ValidTrees.{ruleAt}
+use Rattle.trees.specs.Room.{good-division}
 use Rattle.sizes.specs.declared.LengthTable.{LengthTable}
 use Rattle.sizes.specs.Sizes.{lengthsOf}
 use Rattle.sizes.specs.Held.{lengthTable}
 use Rattle.sizes.specs.SizesLaws.{count-length}
 use Rattle.expansions.specs.Tables.{unpackedOf, PackedRules, RulesHeld}
-use Rattle.plan.specs.Plan.{ruleCount, lengths, lengthAt, PartLength, DivisionsIn, Prepared}
+use Rattle.plan.specs.Leaves.{ruleCount}
+use Rattle.plan.specs.Plan.{lengths, lengthAt, PartLength, DivisionsIn, wayCell, WaysOf, Prepared}
 use Rattle.plan.specs.PlanLaws.{lengths-most, length-positive}
-use Rattle.plan.specs.Sections.{FirstDivision, LastDivision, LeastLeaves, PartAmong, LengthCells, Section}
+use Rattle.plan.specs.Sections.{FirstDivision, LastDivision, PackedLeaves, PartAmong, LengthCells, WayIs, Section, Cell}
 
 -- ---- cell after cell
 
-module _ (rules children leaves lens : List ℕ) (count n heads : ℕ) where
+module _ (rules children leaves lens : List ℕ) (a heads count n : ℕ) where
   -- the first i cells
   pub record Cells (cells : List ℕ) (i : ℕ) : Type 0 where
-    pub size : length cells ≡ 1520
-    pub each : (j : ℕ) → j < i → Section rules children leaves lens count n heads j (getD cells j 0)
+    pub size : length cells ≡ 3055
+    pub each : (j : ℕ) → j < i → Cell rules children leaves lens a heads count n j (getD cells j 0)
 
-  pub cells-next : (cells : List ℕ) (i x : ℕ) → Cells cells i → i < 1516 → Section rules children leaves lens count n heads i x
+  pub cells-next : (cells : List ℕ) (i x : ℕ) → Cells cells i → i < 3055 → Cell rules children leaves lens a heads count n i x
       → Cells (set cells i x) (i + 1)
   cells-next cells i x so-far within here =
       record {
@@ -43,38 +45,6 @@ module _ (rules children leaves lens : List ℕ) (count n heads : ℕ) where
             (rw (getD-set-same cells i x 0 (omega (arith, so-far .size))) here);
       }
 
--- the four numbers behind the sections
-abbrev finished : (cells : List ℕ) (a q count n : ℕ) → List ℕ
-finished cells a q count n = set (set (set (set cells 1516 a) 1517 q) 1518 count) 1519 n
-
-module _ (cells : List ℕ) (a q count n : ℕ) (size : length cells ≡ 1520) where
-  kept : (j : ℕ) → j < 1516 → getD (finished cells a q count n) j 0 ≡ getD cells j 0
-  kept j l =
-      getD-set-other (set (set (set cells 1516 a) 1517 q) 1518 count) 1519 j n 0 (λ e. omega arith)
-      ∙ getD-set-other (set (set cells 1516 a) 1517 q) 1518 j count 0 (λ e. omega arith)
-      ∙ getD-set-other (set cells 1516 a) 1517 j q 0 (λ e. omega arith)
-      ∙ getD-set-other cells 1516 j a 0 (λ e. omega arith)
-
-  multiplier-there : getD (finished cells a q count n) 1516 0 ≡ a
-  multiplier-there =
-      getD-set-other (set (set (set cells 1516 a) 1517 q) 1518 count) 1519 1516 n 0 (λ e. omega arith)
-      ∙ getD-set-other (set (set cells 1516 a) 1517 q) 1518 1516 count 0 (λ e. omega arith)
-      ∙ getD-set-other (set cells 1516 a) 1517 1516 q 0 (λ e. omega arith) ∙ getD-set-same cells 1516 a 0 (omega arith)
-
-  nonterminals-there : getD (finished cells a q count n) 1517 0 ≡ q
-  nonterminals-there =
-      getD-set-other (set (set (set cells 1516 a) 1517 q) 1518 count) 1519 1517 n 0 (λ e. omega arith)
-      ∙ getD-set-other (set (set cells 1516 a) 1517 q) 1518 1517 count 0 (λ e. omega arith)
-      ∙ getD-set-same (set cells 1516 a) 1517 q 0 (rw length-set (omega arith))
-
-  lengths-there : getD (finished cells a q count n) 1518 0 ≡ count
-  lengths-there =
-      getD-set-other (set (set (set cells 1516 a) 1517 q) 1518 count) 1519 1518 n 0 (λ e. omega arith)
-      ∙ getD-set-same (set (set cells 1516 a) 1517 q) 1518 count 0 (simp length-set (omega arith))
-
-  rules-there : getD (finished cells a q count n) 1519 0 ≡ n
-  rules-there = getD-set-same (set (set (set cells 1516 a) 1517 q) 1518 count) 1519 n 0 (simp length-set (omega arith))
-
 -- ---- the plan
 
 -- the tables of a sheet
@@ -82,7 +52,7 @@ pub record TablesOf (s : Sheet) (rules children leaves lens : List ℕ) (a q cou
   pub good : GoodRules (s .grammar)
   pub rules-are : PackedRules (s .grammar) rules
   pub children-are : children ≡ childCells (map partsOf (s .grammar .rules))
-  pub leaves-are : LeastLeaves s leaves
+  pub leaves-are : PackedLeaves s leaves
   pub lens-are : lens ≡ pad 84 0 (lengthsOf (s .grammar .rules))
   pub a-is : a ≡ s .grammar .multiplier
   pub q-is : q ≡ s .grammar .nonterminals
@@ -118,7 +88,7 @@ length-cells h good t e =
 -- what the calls told
 pub tables-of : (s : Sheet) → GoodRules (s .grammar) → (g : GrammarTable) → g ≡ grammarTable (s .grammar) → (rules leaves : List ℕ)
     (reached : LengthTable) → ((h : Grammar) → g ≡ grammarTable h → PackedRules h rules)
-    → ((u : Sheet) → RulesHeld u rules → g .multiplier ≡ u .grammar .multiplier → g .count ≡ ruleCount u → LeastLeaves u leaves)
+    → ((u : Sheet) → RulesHeld u rules → g .multiplier ≡ u .grammar .multiplier → g .count ≡ ruleCount u → PackedLeaves u leaves)
     → ((h : Grammar) → GoodRules h → g ≡ grammarTable h → reached ≡ lengthTable (lengthsOf (h .rules)))
     → TablesOf s rules (g .children) leaves (reached .cells) (g .multiplier) (g .nonterminals) (reached .count) (g .count)
 unfolding grammarTable lengthTable
@@ -184,32 +154,50 @@ module _ (s : Sheet) (rules children leaves lens : List ℕ) (a q count n : ℕ)
             (last .1 s held r (omega arith) (omega (arith, some-below (s .grammar .rules) r (division p w ks) e, t .n-is)) w ks e)
       ]
 
-  pub prepared : (cells : List ℕ) (i : ℕ) → Cells rules children leaves lens count n q cells i → 1516 ≤ i
-      → Prepared s (finished cells a q count n)
+  -- the ways of a division
+  ways-of : (cells : List ℕ) → ((j : ℕ) → j < 3055 → Cell rules children leaves lens a q count n j (getD cells j 0)) → (r j h w : ℕ)
+      (ks : List ℕ) → ruleAt s r ≡ some (division h w ks) → j < length ks → WaysOf s cells r ks j
+  ways-of cells at r j h w ks e within =
+      record {
+        straight = way 0 (omega arith) .straight refl;
+        crossed = way 1 (omega arith) .crossed refl;
+        onward = way 2 (omega arith) .onward refl;
+      }
+    where
+      below : r < 64
+      below = omega (arith, some-below (s .grammar .rules) r (division h w ks) e, t .good .most)
+
+      eight : j < 8
+      eight = omega (arith, good-division s (t .good) r h w ks e .eight)
+
+      way : (i : ℕ) → i < 3 → WayIs s r ks j i (wayCell cells r j i)
+      way i l =
+          at (1519 + 3 * (8 * r + j) + i) (omega (arith, below, eight)) .way r j i eight l refl s
+          (record { good = t .good; rules = t .rules-are })
+          (record { good = t .good; children-are = t .children-are; leaves-are = t .leaves-are }) (t .a-is) h w ks e
+
+  pub prepared : (cells : List ℕ) (i : ℕ) → Cells rules children leaves lens a q count n cells i → 3055 ≤ i → Prepared s cells
   prepared cells i all past =
       record {
         good = t .good;
-        rules = λ r l. ap unpackedOf (is r (omega arith) ∙ at r (omega arith) .rule l) ∙ t .rules-are r l;
+        rules = λ r l. ap unpackedOf (of r (omega arith) .rule l) ∙ t .rules-are r l;
         child = λ r j l m.
-            is (64 + 8 * r + j) (omega arith) ∙ at (64 + 8 * r + j) (omega arith) .child (8 * r + j) (omega arith) (omega arith)
+            of (64 + 8 * r + j) (omega arith) .child (8 * r + j) (omega arith) (omega arith)
             ∙ ap (λ (xs : List ℕ). getD xs (8 * r + j) 0) (t .children-are);
-        leaves = λ p m l k.
-            is (576 + 4 * p + m) (omega arith) ∙ at (576 + 4 * p + m) (omega arith) .leaf (4 * p + m) (omega arith) (omega arith)
-            ∙ t .leaves-are p m l k;
-        length-at = λ l h. is (640 + l) (omega arith) ∙ at (640 + l) (omega arith) .length l h refl ∙ lens-at l h;
-        part = λ l k h m. rw (is (724 + 9 * l + k) (omega arith)) (part-of l k _ h (at (724 + 9 * l + k) (omega arith) .part l k h m refl));
+        leaves = λ p m l k. of (576 + 4 * p + m) (omega arith) .leaf (4 * p + m) (omega arith) (omega arith) ∙ t .leaves-are p m l k;
+        length-at = λ l h. of (640 + l) (omega arith) .length l h refl ∙ lens-at l h;
+        part = λ l k h m. part-of l k _ h (of (724 + 9 * l + k) (omega arith) .part l k h m refl);
         divisions = λ p h.
-            rw (is (1480 + p) (omega arith), is (1496 + p) (omega arith))
-            (divisions-of p _ _ (at (1480 + p) (omega arith) .first p h refl) (at (1496 + p) (omega arith) .last p h refl));
-        saved-are = λ c h. is (1512 + c) (omega arith) ∙ at (1512 + c) (omega arith) .saved c h refl s (t .leaves-are) (t .q-is);
-        multiplier = multiplier-there cells a q count n (all .size) ∙ t .a-is;
-        nonterminals = nonterminals-there cells a q count n (all .size) ∙ t .q-is;
-        lengths-are = lengths-there cells a q count n (all .size) ∙ count-lengths;
-        rules-are = rules-there cells a q count n (all .size) ∙ t .n-is;
+            divisions-of p _ _ (of (1480 + p) (omega arith) .first p h refl) (of (1496 + p) (omega arith) .last p h refl);
+        saved-are = λ c h. at (1512 + c) (omega arith) .saved c h refl s (t .good) (t .leaves-are) (t .q-is);
+        multiplier = at 1516 (omega arith) .multiplier refl ∙ t .a-is;
+        nonterminals = at 1517 (omega arith) .nonterminals refl ∙ t .q-is;
+        lengths-are = at 1518 (omega arith) .lengths refl ∙ count-lengths;
+        ways = ways-of cells at;
       }
     where
-      is : (j : ℕ) → j < 1516 → getD (finished cells a q count n) j 0 ≡ getD cells j 0
-      is j l = kept cells a q count n (all .size) j l
-
-      at : (j : ℕ) → j < 1516 → Section rules children leaves lens count n q j (getD cells j 0)
+      at : (j : ℕ) → j < 3055 → Cell rules children leaves lens a q count n j (getD cells j 0)
       at j l = all .each j (omega arith)
+
+      of : (j : ℕ) → j < 1512 → Section rules children leaves lens count n j (getD cells j 0)
+      of j l = at j (omega arith) .section l

@@ -1,8 +1,7 @@
 -- Steps of reading one rule of the plan: what the rule in a cell tells of the sheet's rule, and so of its cost, of how it divides a length
--- and of whether it is a leaf.
+-- and of whether it is a leaf or a division.
 use Prim.Native.Nat.{ℕ, _*_, _<_, _≤_}
 use mathlib.Core.Path.{_≡_, refl, sym, ap, _∙_}
-use mathlib.Core.Bool.{true, false, false≢true}
 use mathlib.Core.List.{List}
 use mathlib.Core.Logic.{inl, inr}
 use mathlib.Core.Option.{Option, none, some, Option·elim}
@@ -18,7 +17,7 @@ use Rattle.expansions.specs.Tables.{unpackedOf, cellOf, PackedRules, RulesHeld}
 use Rattle.expansions.specs.RuleCells.{leaf≢division, leaf-rule, DivisionRule, division-rule}
 use Rattle.plan.specs.declared.Split.{Split}
 use Rattle.plan.specs.Plan.{lengths, partCell, multiplierCell, lengthsCell, Prepared}
-use Rattle.plan.specs.Plan.{Divides, PartsOf, NoDivision, SplitAt, LeafRule}
+use Rattle.plan.specs.Plan.{Divides, PartsOf, NoDivision, SplitAt}
 use Rattle.plan.specs.Sections.{NotHead}
 use Rattle.plan.specs.PlanLaws.{part-listed}
 
@@ -28,7 +27,7 @@ pub cell-read : (s : Sheet) (cells : List ℕ) (r : ℕ) → PackedRules (s .gra
 cell-read s cells r packed below rule x is e = sym (packed r below) ∙ sym is ∙ e
 
 -- the weight in a cell
-division-weight : (o : Option Rule) (h w k : ℕ) → cellOf o ≡ Division h w k → w ≡ Option·elim o 0 weightOf
+pub division-weight : (o : Option Rule) (h w k : ℕ) → cellOf o ≡ Division h w k → w ≡ Option·elim o 0 weightOf
 unfolding Option·elim
 division-weight none h w k e = cc
 division-weight (some (leaf a b n)) h w k e = absurd (leaf≢division _ _ _ _ _ _ e)
@@ -75,29 +74,6 @@ module _ (s : Sheet) (plan : List ℕ) (r : ℕ) (rule : held.Rule) (below : r <
   pub leaf-cost : (h w n : ℕ) → rule ≡ Leaf h w n → multiplierCell plan * w ≡ s .grammar .multiplier * weightAt s r
   unfolding weightAt
   leaf-cost h w n e = rw (p .multiplier) (ap (λ (x : ℕ). s .grammar .multiplier * x) (leaf-weight (ruleAt s r) h w n (cell _ e)))
-
-  -- ---- whether it is a leaf
-
-  pub not-division : (h w k q n : ℕ) → rule ≡ Division h w k → LeafRule s r q n false
-  not-division h w k q n e =
-      record {
-        leaf-is = λ f. absurd (false≢true f);
-        not-leaf = λ f v m. absurd (leaf≢division _ _ _ _ _ _ (sym (ap cellOf m) ∙ cell _ e));
-      }
-
-  pub other-leaf : (h w m q n : ℕ) → rule ≡ Leaf h w m → ((h ≡ q) × (m ≡ n) → ⊥) → LeafRule s r q n false
-  other-leaf h w m q n e f =
-      record {
-        leaf-is = λ t. absurd (false≢true t);
-        not-leaf = λ t v o. let same : Leaf q v n ≡ Leaf h w m = sym (ap cellOf o) ∙ cell _ e in f (cc same, cc same);
-      }
-
-  pub this-leaf : (h w m q n : ℕ) → rule ≡ Leaf h w m → h ≡ q → m ≡ n → LeafRule s r q n true
-  this-leaf h w m q n e head kind =
-      record {
-        leaf-is = λ t. (w, rw (← head, ← kind) (leaf-rule (ruleAt s r) h w m (cell _ e)));
-        not-leaf = λ f. absurd (false≢true (sym f));
-      }
 
   -- ---- how it divides
 

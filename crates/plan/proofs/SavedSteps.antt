@@ -1,16 +1,19 @@
 -- Steps of finding what carried onsets can save, kind after kind and nonterminal after nonterminal.
-use Prim.Native.Nat.{ℕ, _+_, _-_, _*_, _<_, max}
+use Prim.Native.Nat.{ℕ, _+_, _-_, _*_, _/_, _<_, max}
 use mathlib.Core.Path.{_≡_, refl, ap, _∙_}
 use mathlib.Core.List.{List}
 use native.Mathlib.Numerals.{add-one}
 use native.Mathlib.Omega.{arith}
 use lib.ListN.{getD}
 use Rattle.sheet.specs.Sheet.{Sheet}
+use Rattle.sheet.specs.Good.{GoodRules}
 use Rattle.trees.specs.ValidTrees.{token}
 use Rattle.sizes.specs.Sizes.{largest}
-use Rattle.plan.specs.Plan.{leastLeaf, savedAt, savedBy}
+use Rattle.plan.specs.Leaves.{leastLeaf}
+use Rattle.plan.specs.Packed.{packed-leaf-is}
+use Rattle.plan.specs.Plan.{savedAt, savedBy}
 use Rattle.plan.specs.PlanLaws.{token-below}
-use Rattle.plan.specs.Sections.{LeastLeaves}
+use Rattle.plan.specs.Sections.{PackedLeaves}
 
 pub largest-none : (f : ℕ → ℕ) → 0 ≡ largest f 0
 unfolding largest
@@ -21,14 +24,19 @@ pub largest-next : (f : ℕ → ℕ) (i : ℕ) (m x y : ℕ) → m ≡ largest f
 unfolding largest
 largest-next f i m x y em ex ey = rw add-one (omega (arith, em, ex, ey))
 
+-- the quotient of a packed leaf cell
+pub packed-cell-least : (s : Sheet) → GoodRules (s .grammar) → (leaves : List ℕ) → PackedLeaves s leaves → (q n : ℕ) → q < 16 → n < 4
+    → getD leaves (4 * q + n) 0 / 64 ≡ leastLeaf s q n
+packed-cell-least s good leaves t q n hq hn = ap (_/ 64) (t q n hq hn) ∙ packed-leaf-is s good q n
+
 -- the cells of two kinds
-pub saved-cell : (s : Sheet) (leaves : List ℕ) → LeastLeaves s leaves → (q c e k : ℕ) → q < 16 → e < 4 → k ≡ token (c + e)
-    → getD leaves (4 * q + e) 0 - getD leaves (4 * q + k) 0 ≡ savedAt s q c e
-saved-cell s leaves t q c e k hq he ek =
+pub saved-cell : (s : Sheet) → GoodRules (s .grammar) → (leaves : List ℕ) → PackedLeaves s leaves → (q c e k : ℕ) → q < 16 → e < 4
+    → k ≡ token (c + e) → getD leaves (4 * q + e) 0 / 64 - getD leaves (4 * q + k) 0 / 64 ≡ savedAt s q c e
+saved-cell s good leaves t q c e k hq he ek =
     omega (
       arith,
-      t q e hq he,
-      t q k hq (omega (arith, ek, token-below (c + e))),
+      packed-cell-least s good leaves t q e hq he,
+      packed-cell-least s good leaves t q k hq (omega (arith, ek, token-below (c + e))),
       ap (leastLeaf s q) ek,
     )
 

@@ -5,7 +5,7 @@ use mathlib.Core.List.{List}
 use native.Mathlib.Nat.{mul-le-mul}
 use native.Mathlib.Omega.{arith}
 use lib.ListN.{getD}
-use Rattle.plan.specs.Sections.{FirstDivision, LastDivision, MostSaved, PartAmong, LengthCells, Section}
+use Rattle.plan.specs.Sections.{FirstDivision, LastDivision, MostSaved, PartAmong, LengthCells, WayOf, Section, Cell}
 
 -- ---- the place of a part
 
@@ -38,10 +38,10 @@ module _ (lens : List ℕ) (count l k : ℕ) (t : LengthCells lens count) (past 
             omega (arith, t .past l past within);
       }
 
--- ---- a cell, by sections
+-- ---- a cell, by tables
 
-module _ (rules children leaves lens : List ℕ) (count n heads i : ℕ) where
-  pub at-child : 64 ≤ i → i < 576 → Section rules children leaves lens count n heads i (getD children (i - 64) 0)
+module _ (rules children leaves lens : List ℕ) (count n i : ℕ) where
+  pub at-child : 64 ≤ i → i < 576 → Section rules children leaves lens count n i (getD children (i - 64) 0)
   at-child h m =
       record {
         rule = λ l. absurd (omega arith);
@@ -51,10 +51,9 @@ module _ (rules children leaves lens : List ℕ) (count n heads i : ℕ) where
         part = λ j k l f e. absurd (omega arith);
         first = λ j l e. absurd (omega arith);
         last = λ j l e. absurd (omega arith);
-        saved = λ j l e. absurd (omega arith);
       }
 
-  pub at-leaf : 576 ≤ i → i < 640 → Section rules children leaves lens count n heads i (getD leaves (i - 576) 0)
+  pub at-leaf : 576 ≤ i → i < 640 → Section rules children leaves lens count n i (getD leaves (i - 576) 0)
   at-leaf h m =
       record {
         rule = λ l. absurd (omega arith);
@@ -64,10 +63,9 @@ module _ (rules children leaves lens : List ℕ) (count n heads i : ℕ) where
         part = λ j k l f e. absurd (omega arith);
         first = λ j l e. absurd (omega arith);
         last = λ j l e. absurd (omega arith);
-        saved = λ j l e. absurd (omega arith);
       }
 
-  pub at-length : 640 ≤ i → i < 724 → Section rules children leaves lens count n heads i (getD lens (i - 640) 0)
+  pub at-length : 640 ≤ i → i < 724 → Section rules children leaves lens count n i (getD lens (i - 640) 0)
   at-length h m =
       record {
         rule = λ l. absurd (omega arith);
@@ -77,11 +75,10 @@ module _ (rules children leaves lens : List ℕ) (count n heads i : ℕ) where
         part = λ j k l f e. absurd (omega arith);
         first = λ j l e. absurd (omega arith);
         last = λ j l e. absurd (omega arith);
-        saved = λ j l e. absurd (omega arith);
       }
 
   pub at-part : (x : ℕ) → 724 ≤ i → i < 1480 → PartAmong lens count ((i - 724) / 9) ((i - 724) % 9) x
-      → Section rules children leaves lens count n heads i x
+      → Section rules children leaves lens count n i x
   at-part x h m p =
       record {
         rule = λ l. absurd (omega arith);
@@ -91,10 +88,9 @@ module _ (rules children leaves lens : List ℕ) (count n heads i : ℕ) where
         part = λ j k l f e. subst₂ (λ (y z : ℕ). PartAmong lens count y z x) (omega arith) (omega arith) p;
         first = λ j l e. absurd (omega arith);
         last = λ j l e. absurd (omega arith);
-        saved = λ j l e. absurd (omega arith);
       }
 
-  pub at-first : (x : ℕ) → 1480 ≤ i → i < 1496 → FirstDivision rules n (i - 1480) x → Section rules children leaves lens count n heads i x
+  pub at-first : (x : ℕ) → 1480 ≤ i → i < 1496 → FirstDivision rules n (i - 1480) x → Section rules children leaves lens count n i x
   at-first x h m p =
       record {
         rule = λ l. absurd (omega arith);
@@ -104,10 +100,9 @@ module _ (rules children leaves lens : List ℕ) (count n heads i : ℕ) where
         part = λ j k l f e. absurd (omega arith);
         first = λ j l e. subst (λ (y : ℕ). FirstDivision rules n y x) (omega arith) p;
         last = λ j l e. absurd (omega arith);
-        saved = λ j l e. absurd (omega arith);
       }
 
-  pub at-last : (x : ℕ) → 1496 ≤ i → i < 1512 → LastDivision rules n (i - 1496) x → Section rules children leaves lens count n heads i x
+  pub at-last : (x : ℕ) → 1496 ≤ i → i < 1512 → LastDivision rules n (i - 1496) x → Section rules children leaves lens count n i x
   at-last x h m p =
       record {
         rule = λ l. absurd (omega arith);
@@ -117,18 +112,35 @@ module _ (rules children leaves lens : List ℕ) (count n heads i : ℕ) where
         part = λ j k l f e. absurd (omega arith);
         first = λ j l e. absurd (omega arith);
         last = λ j l e. subst (λ (y : ℕ). LastDivision rules n y x) (omega arith) p;
-        saved = λ j l e. absurd (omega arith);
       }
 
-  pub at-saved : (x : ℕ) → 1512 ≤ i → MostSaved leaves heads (i - 1512) x → Section rules children leaves lens count n heads i x
-  at-saved x h p =
+-- ---- a cell behind them
+
+module _ (rules children leaves lens : List ℕ) (a heads count n i : ℕ) where
+  pub at-saved : (x : ℕ) → 1512 ≤ i → i < 1516 → MostSaved leaves heads (i - 1512) x → Cell rules children leaves lens a heads count n i x
+  at-saved x h m p =
       record {
-        rule = λ l. absurd (omega arith);
-        child = λ j l e. absurd (omega arith);
-        leaf = λ j l e. absurd (omega arith);
-        length = λ j l e. absurd (omega arith);
-        part = λ j k l f e. absurd (omega arith);
-        first = λ j l e. absurd (omega arith);
-        last = λ j l e. absurd (omega arith);
-        saved = λ j l e. subst (λ (y : ℕ). MostSaved leaves heads y x) (omega arith) p;
+        section = λ l. absurd (omega arith);
+        saved = λ c l e. subst (λ (y : ℕ). MostSaved leaves heads y x) (omega arith) p;
+        multiplier = λ e. absurd (omega arith);
+        nonterminals = λ e. absurd (omega arith);
+        lengths = λ e. absurd (omega arith);
+        way = λ r j k l f e. absurd (omega arith);
+      }
+
+  pub at-way : (x : ℕ) → 1519 ≤ i → WayOf rules children leaves a ((i - 1519) / 24) ((i - 1519) / 3 % 8) ((i - 1519) % 3) x
+      → Cell rules children leaves lens a heads count n i x
+  at-way x h p =
+      record {
+        section = λ l. absurd (omega arith);
+        saved = λ c l e. absurd (omega arith);
+        multiplier = λ e. absurd (omega arith);
+        nonterminals = λ e. absurd (omega arith);
+        lengths = λ e. absurd (omega arith);
+        way = λ r j k l f e.
+            let at-rule : (i - 1519) / 24 ≡ r = omega arith in
+            let at-part : (i - 1519) / 3 % 8 ≡ j = omega arith in
+            let at-kind : (i - 1519) % 3 ≡ k = omega arith in
+            subst (λ (y : ℕ). WayOf rules children leaves a r j y x) at-kind
+            (subst₂ (λ (y z : ℕ). WayOf rules children leaves a y z ((i - 1519) % 3) x) at-rule at-part p);
       }

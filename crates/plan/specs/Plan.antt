@@ -2,26 +2,21 @@
 -- prepared once for a sheet.
 use Prim.Native.Nat.{ℕ, _+_, _-_, _*_, _%_, _≤_, _<_}
 use mathlib.Core.Path.{_≡_}
-use mathlib.Core.Bool.{Bool, true, false, cond}
 use mathlib.Core.List.{List, map}
-use mathlib.Core.Option.{Option, none, some}
-use lib.Dec.{eqb}
+use mathlib.Core.Option.{some}
 use lib.ListN.{length, getD}
-use Rattle.sheet.specs.Sheet.{Rule, division, leaf, Sheet}
+use Rattle.sheet.specs.Sheet.{division, Sheet}
 use Rattle.sheet.specs.Good.{GoodRules}
 use Rattle.sheet.specs.Held.{partsOf, childCells}
-use Rattle.derivations.specs.Minima.{lowest}
 use Rattle.trees.specs.ValidTrees.{ruleAt, token}
-use Rattle.trees.specs.LeastTotal.{NONE}
 use Rattle.sizes.specs.Sizes.{largest, lengthsOf, lengthCount}
 use Rattle.expansions.specs.Tables.{PackedRules}
 use Rattle.plan.specs.declared.Split.{Split}
+unfoldable pub use Rattle.plan.specs.Leaves.{ruleCount, leafCost, leastLeaf}
+use Rattle.plan.specs.Packed.{packedLeaf}
+use Rattle.plan.specs.Ways.{beside, oneToZero, oneToOne}
 
 -- ---- what is looked up
-
--- the number of rules
-abbrev pub ruleCount : Sheet → ℕ
-ruleCount s = length (s .grammar .rules)
 
 -- the number of lengths, and the length with index l, from the largest down
 abbrev pub lengths : Sheet → ℕ
@@ -29,17 +24,6 @@ lengths s = lengthCount (s .grammar .rules)
 
 abbrev pub lengthAt : Sheet → ℕ → ℕ
 lengthAt s l = getD (lengthsOf (s .grammar .rules)) l 0
-
--- what a rule costs as a leaf of nonterminal q with this n; the cap for any other rule
-abbrev pub leafCost : (a q n : ℕ) → Option Rule → ℕ
-leafCost a q n none = NONE
-leafCost a q n (some (leaf h w m)) = cond (eqb h q) (cond (eqb m n) (a * w) NONE) NONE
-leafCost a q n (some (division h w ks)) = NONE
-
--- the least of them, or the cap
-unfoldable pub leastLeaf : Sheet → (q n : ℕ) → ℕ
-unfolding lowest
-leastLeaf s q n = lowest NONE (λ r. leafCost (s .grammar .multiplier) q n (ruleAt s r)) (ruleCount s)
 
 -- by how much a leaf of nonterminal q that e onsets are early in is cheaper with c onsets carried in than with none; 0 where it is not. A
 -- leaf that no rule makes costs the cap, and is not cheaper than any.
@@ -67,6 +51,7 @@ pub record DivisionsIn (s : Sheet) (q from to : ℕ) : Type 0 where
 abbrev pub childCell : List ℕ → (r j : ℕ) → ℕ
 childCell plan r j = getD plan (64 + 8 * r + j) 0
 
+-- a packed cell: 64 times the least cost, and its rule
 abbrev pub leafCell : List ℕ → (q n : ℕ) → ℕ
 leafCell plan q n = getD plan (576 + 4 * q + n) 0
 
@@ -94,15 +79,22 @@ nonterminalsCell plan = getD plan 1517 0
 abbrev pub lengthsCell : List ℕ → ℕ
 lengthsCell plan = getD plan 1518 0
 
-abbrev pub rulesCell : List ℕ → ℕ
-rulesCell plan = getD plan 1519 0
+abbrev pub wayCell : List ℕ → (r j i : ℕ) → ℕ
+wayCell plan r j i = getD plan (1519 + 3 * (8 * r + j) + i) 0
+
+-- what is added to the cells of part j of rule r where only that part has an onset: to cell 0 to come to cell 0 of the whole, to cell 1 to
+-- come to cell 0, and to cell 1 to come to cell 1
+pub record WaysOf (s : Sheet) (plan : List ℕ) (r : ℕ) (ks : List ℕ) (j : ℕ) : Type 0 where
+  pub straight : wayCell plan r j 0 ≡ beside s r ks j 0
+  pub crossed : wayCell plan r j 1 ≡ oneToZero s r ks j
+  pub onward : wayCell plan r j 2 ≡ oneToOne s r ks j
 
 -- the plan of a sheet
 pub record Prepared (s : Sheet) (plan : List ℕ) : Type 0 where
   pub good : GoodRules (s .grammar)
   pub rules : PackedRules (s .grammar) plan
   pub child : (r j : ℕ) → r < 64 → j < 8 → childCell plan r j ≡ getD (childCells (map partsOf (s .grammar .rules))) (8 * r + j) 0
-  pub leaves : (q n : ℕ) → q < 16 → n < 4 → leafCell plan q n ≡ leastLeaf s q n
+  pub leaves : (q n : ℕ) → q < 16 → n < 4 → leafCell plan q n ≡ packedLeaf s q n
   pub length-at : (l : ℕ) → l < 84 → lengthCell plan l ≡ lengthAt s l
   pub part : (l k : ℕ) → l < 84 → k < 9 → PartLength s l k (partCell plan l k)
   pub divisions : (q : ℕ) → q < 16 → DivisionsIn s q (firstCell plan q) (lastCell plan q)
@@ -110,7 +102,7 @@ pub record Prepared (s : Sheet) (plan : List ℕ) : Type 0 where
   pub multiplier : multiplierCell plan ≡ s .grammar .multiplier
   pub nonterminals : nonterminalsCell plan ≡ s .grammar .nonterminals
   pub lengths-are : lengthsCell plan ≡ lengths s
-  pub rules-are : rulesCell plan ≡ ruleCount s
+  pub ways : (r j q w : ℕ) (ks : List ℕ) → ruleAt s r ≡ some (division q w ks) → j < length ks → WaysOf s plan r ks j
 
 -- ---- a rule at a nonterminal and a length
 
@@ -138,8 +130,3 @@ NoDivision s q l r = (w : ℕ) (ks : List ℕ) → ruleAt s r ≡ some (division
 pub record SplitAt (s : Sheet) (q l r : ℕ) (x : Split) : Type 0 where
   pub idle : x .arity ≡ 0 → NoDivision s q l r
   pub divides : (x .arity ≡ 0 → ⊥) → Divides s q l r (x .arity) (x .part)
-
--- what `is_leaf` gives: whether rule r is a leaf of nonterminal q with this n
-pub record LeafRule (s : Sheet) (r q n : ℕ) (x : Bool) : Type 0 where
-  pub leaf-is : x ≡ true → (w : ℕ) × (ruleAt s r ≡ some (leaf q w n))
-  pub not-leaf : x ≡ false → (w : ℕ) → ruleAt s r ≡ some (leaf q w n) → ⊥

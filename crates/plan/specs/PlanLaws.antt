@@ -1,12 +1,13 @@
--- Laws of what the plan holds: bounds of lengths and of leaf costs, the parts of a rule, the length that a division leads to. Assumes
--- nothing.
-use Prim.Native.Nat.{ℕ, zero, suc, _*_, _/_, _%_, _<_, _≤_}
+-- Laws of what the plan holds: bounds of lengths, of leaf costs and of ways, the parts of a rule, the length that a division leads to.
+-- Assumes nothing.
+use Prim.Native.Nat.{ℕ, zero, suc, _+_, _*_, _/_, _%_, _<_, _≤_}
 use mathlib.Core.Path.{_≡_, sym, ap, _∙_}
-use mathlib.Core.Bool.{true, false, false≢true, or-true}
+use mathlib.Core.Bool.{Bool, true, false, cond, false≢true, or-true}
 use mathlib.Core.List.{List, [], _∷_, map}
 use mathlib.Core.Option.{some, Option·none-ne-some}
 use native.Mathlib.Nat.{mul-le-mul-right, div-add-mod}
 use native.Mathlib.Omega.{arith}
+use lib.Dec.{ltb}
 use lib.ListN.{length, getD, getElem?, drop}
 use lib.Seq.{getD-take, getD-drop}
 use borrow.Author.Tests.{eq-eqb}
@@ -24,7 +25,10 @@ use Rattle.sizes.specs.Sizes.{hasArity, Length, part, lengthsOf}
 use Rattle.sizes.specs.SizesLaws.{length-divides, count-length, whole-first, length-count-most, lengths-listed}
 use Rattle.sizes.specs.Divisors.{positive-left, positive-right}
 use Rattle.sizes.specs.Members.{place-of}
-use Rattle.plan.specs.Plan.{ruleCount, lengths, lengthAt, leafCost, leastLeaf, childCell, Prepared}
+use Rattle.plan.specs.Leaves.{ruleCount, leafCost, leastLeaf}
+use Rattle.plan.specs.Packed.{packed-leaf-most, packed-leaf-is}
+use Rattle.plan.specs.Ways.{beside}
+use Rattle.plan.specs.Plan.{lengths, lengthAt, childCell, leafCell, wayCell, Prepared}
 
 module _ (s : Sheet) where
   -- ---- lengths
@@ -68,6 +72,39 @@ module _ (s : Sheet) where
   unfolding leastLeaf
   least-leaf-most q n = lowest-cap NONE (λ r. leafCost (s .grammar .multiplier) q n (ruleAt s r)) (ruleCount s)
 
+-- ---- the cells of leaves and of ways
+
+module _ (s : Sheet) (plan : List ℕ) (p : Prepared s plan) where
+  module _ (q n : ℕ) (hq : q < 16) (hn : n < 4) where
+    -- the quotient is the least cost
+    pub leaf-cell-least : leafCell plan q n / 64 ≡ leastLeaf s q n
+    leaf-cell-least = ap (_/ 64) (p .leaves q n hq hn) ∙ packed-leaf-is s (p .good) q n
+
+    pub leaf-cell-most : leafCell plan q n ≤ 64 * NONE
+    leaf-cell-most = omega (arith, p .leaves q n hq hn, packed-leaf-most s q n)
+
+  -- a way is a packed cell of a rule below 64
+  module _ (r j q w : ℕ) (ks : List ℕ) (e : ruleAt s r ≡ some (division q w ks)) (within : j < length ks) where
+    rule-below : r < 64
+    rule-below = omega (arith, some-below (s .grammar .rules) r (division q w ks) e, p .good .most)
+
+    beside-most : (n : ℕ) → beside s r ks j n ≤ 64 * NONE + 63
+    beside-most n = omega (arith, rule-below)
+
+    -- of two such cells either is one
+    either-most : (b : Bool) (x y : ℕ) → x ≤ 64 * NONE + 63 → y ≤ 64 * NONE + 63 → cond b x y ≤ 64 * NONE + 63
+    either-most true x y h k = h
+    either-most false x y h k = k
+
+    pub straight-most : wayCell plan r j 0 ≤ 64 * NONE + 63
+    straight-most = rw (p .ways r j q w ks e within .straight) (beside-most 0)
+
+    pub crossed-most : wayCell plan r j 1 ≤ 64 * NONE + 63
+    crossed-most = rw (p .ways r j q w ks e within .crossed) (either-most (ltb (j + 1) (length ks)) _ _ (beside-most 1) (omega arith))
+
+    pub onward-most : wayCell plan r j 2 ≤ 64 * NONE + 63
+    onward-most = rw (p .ways r j q w ks e within .onward) (either-most (ltb (j + 1) (length ks)) _ _ (omega arith) (beside-most 0))
+
 -- ---- token kinds
 
 pub token-below : (e : ℕ) → token e < 4
@@ -105,13 +142,18 @@ part-listed s good r l h w ks below e divided =
 
 -- ---- parts of a rule
 
+pub child-in : (s : Sheet) → GoodRules (s .grammar) → (r h w : ℕ) (ks : List ℕ) → ruleAt s r ≡ some (division h w ks) → (j : ℕ)
+    → j < length ks → getD (childCells (map partsOf (s .grammar .rules))) (8 * r + j) 0 ≡ getD ks j 0
+child-in s good r h w ks e j below =
+    let rules = s .grammar .rules in
+    let cells = childCells (map partsOf rules) in
+    sym (getD-drop (8 * r) cells j 0) ∙ sym (getD-take (length ks) (drop (8 * r) cells) j 0 below)
+    ∙ ap (λ (xs : List ℕ). getD xs j 0) (parts-of rules r h w ks e (good-division s good r h w ks e .eight) (good .most))
+
 pub child-at : (s : Sheet) (plan : List ℕ) → Prepared s plan → (r h w : ℕ) (ks : List ℕ) → ruleAt s r ≡ some (division h w ks) → (j : ℕ)
     → j < length ks → childCell plan r j ≡ getD ks j 0
 child-at s plan p r h w ks e j below =
-    let rules = s .grammar .rules in
-    let cells = childCells (map partsOf rules) in
     let good = p .good in
-    let eight = good-division s good r h w ks e .eight in
-    p .child r j (omega (arith, some-below rules r (division h w ks) e, good .most)) (omega (arith, eight))
-    ∙ sym (getD-drop (8 * r) cells j 0) ∙ sym (getD-take (length ks) (drop (8 * r) cells) j 0 below)
-    ∙ ap (λ (xs : List ℕ). getD xs j 0) (parts-of rules r h w ks e eight (good .most))
+    p .child r j (omega (arith, some-below (s .grammar .rules) r (division h w ks) e, good .most))
+    (omega (arith, good-division s good r h w ks e .eight))
+    ∙ child-in s good r h w ks e j below

@@ -1,25 +1,31 @@
--- What the functions that fill the plan give: the least leaf costs as a table, the index of a part, and each cell of the sections of the
--- plan, over the tables that it comes from.
+-- What the functions that fill the plan give: the packed leaf cells as a table, the index of a part, the ways, and each cell of the plan,
+-- over the tables that it comes from.
 use Prim.Native.Nat.{ℕ, _+_, _*_, _≤_, _<_}
 use mathlib.Core.Path.{_≡_}
-use mathlib.Core.List.{List}
+use mathlib.Core.Bool.{cond}
+use mathlib.Core.List.{List, map}
 use mathlib.Core.Option.{some}
-use lib.ListN.{getD}
+use lib.Dec.{eqb}
+use lib.ListN.{length, getD}
 use Rattle.sheet.specs.Sheet.{division, Sheet}
-use Rattle.derivations.specs.Minima.{lowest}
+use Rattle.sheet.specs.Good.{GoodRules}
+use Rattle.sheet.specs.Held.{partsOf, childCells}
 use Rattle.trees.specs.ValidTrees.{ruleAt}
 use Rattle.trees.specs.LeastTotal.{NONE}
 use Rattle.expansions.specs.Tables.{RulesHeld}
-use Rattle.plan.specs.Plan.{leafCost, leastLeaf, savedBy}
+use Rattle.plan.specs.Leaves.{leafCost, leastLeaf}
+use Rattle.plan.specs.Packed.{packed, packedLeaf}
+use Rattle.plan.specs.Ways.{beside, oneToZero, oneToOne}
+use Rattle.plan.specs.Plan.{savedBy}
 
--- the least leaf costs, four places a nonterminal
-abbrev pub LeastLeaves : Sheet → List ℕ → Type 0
-LeastLeaves s leaves = (q n : ℕ) → q < 16 → n < 4 → getD leaves (4 * q + n) 0 ≡ leastLeaf s q n
+-- the packed leaf cells, four places a nonterminal
+abbrev pub PackedLeaves : Sheet → List ℕ → Type 0
+PackedLeaves s leaves = (q n : ℕ) → q < 16 → n < 4 → getD leaves (4 * q + n) 0 ≡ packedLeaf s q n
 
 -- the same of the first i rules
-abbrev pub LeastUpto : Sheet → List ℕ → ℕ → Type 0
-LeastUpto s leaves i =
-    (q n : ℕ) → q < 16 → n < 4 → getD leaves (4 * q + n) 0 ≡ lowest NONE (λ r. leafCost (s .grammar .multiplier) q n (ruleAt s r)) i
+abbrev pub PackedUpto : Sheet → List ℕ → ℕ → Type 0
+PackedUpto s leaves i =
+    (q n : ℕ) → q < 16 → n < 4 → getD leaves (4 * q + n) 0 ≡ packed NONE (λ r. leafCost (s .grammar .multiplier) q n (ruleAt s r)) i
 
 -- of the first `count` cells, h is the place of one that is a k-th of the cell at l; where there is none, h is past them
 pub record PartAmong (lens : List ℕ) (count l k h : ℕ) : Type 0 where
@@ -39,19 +45,59 @@ LastDivision rules n q x = (x ≤ n) × ((s : Sheet) → RulesHeld s rules → (
 
 -- x is the most that a leaf of a nonterminal below `heads` is cheaper with c onsets carried in
 abbrev pub MostSaved : (leaves : List ℕ) (heads c x : ℕ) → Type 0
-MostSaved leaves heads c x = (s : Sheet) → LeastLeaves s leaves → heads ≡ s .grammar .nonterminals → x ≡ savedBy s c
+MostSaved leaves heads c x = (s : Sheet) → GoodRules (s .grammar) → PackedLeaves s leaves → heads ≡ s .grammar .nonterminals
+    → x ≡ savedBy s c
 
 -- every cell fits 32 bits; an array behind a reference does not tell this by its type
 abbrev pub Small : List ℕ → Type 0
 Small xs = (i : ℕ) → getD xs i 0 < 4294967296
+
+-- and 64 bits
+abbrev pub Wide : List ℕ → Type 0
+Wide xs = (i : ℕ) → getD xs i 0 < 18446744073709551616
 
 -- the first `count` cells hold lengths, the others 0
 pub record LengthCells (lens : List ℕ) (count : ℕ) : Type 0 where
   pub positive : (i : ℕ) → i < count → 0 < getD lens i 0
   pub past : (i : ℕ) → count ≤ i → i < 84 → getD lens i 0 ≡ 0
 
--- x stands in cell i of the plan, by sections
-pub record Section (rules children leaves lens : List ℕ) (count n heads i x : ℕ) : Type 0 where
+-- ---- ways
+
+-- x is what part i, of nonterminal q, costs beside part j
+abbrev pub PartBeside : (leaves : List ℕ) (q i j n x : ℕ) → Type 0
+PartBeside leaves q i j n x =
+    (s : Sheet) → GoodRules (s .grammar) → PackedLeaves s leaves → q < 16 → x ≡ cond (eqb i j) 0 (leastLeaf s q (cond (eqb i (j + 1)) n 0))
+
+-- the children and the packed leaf cells are a sheet's
+pub record PartsHeld (s : Sheet) (children leaves : List ℕ) : Type 0 where
+  pub good : GoodRules (s .grammar)
+  pub children-are : children ≡ childCells (map partsOf (s .grammar .rules))
+  pub leaves-are : PackedLeaves s leaves
+
+-- and its rule r is a division into the k parts ks
+pub record DivisionHeld (s : Sheet) (children leaves : List ℕ) (r k : ℕ) (ks : List ℕ) : Type 0 where
+  pub tables : PartsHeld s children leaves
+  pub head : ℕ
+  pub weight : ℕ
+  pub rule : ruleAt s r ≡ some (division head weight ks)
+  pub count : k ≡ length ks
+
+-- x is way i at part j of rule r, a division into the parts ks
+pub record WayIs (s : Sheet) (r : ℕ) (ks : List ℕ) (j i x : ℕ) : Type 0 where
+  pub straight : i ≡ 0 → x ≡ beside s r ks j 0
+  pub crossed : i ≡ 1 → x ≡ oneToZero s r ks j
+  pub onward : i ≡ 2 → x ≡ oneToOne s r ks j
+
+-- the same of the rule in the table, where it is a division
+abbrev pub WayOf : (rules children leaves : List ℕ) (a r j i x : ℕ) → Type 0
+WayOf rules children leaves a r j i x =
+    (s : Sheet) → RulesHeld s rules → PartsHeld s children leaves → a ≡ s .grammar .multiplier → (q w : ℕ) (ks : List ℕ)
+    → ruleAt s r ≡ some (division q w ks) → WayIs s r ks j i x
+
+-- ---- the cells of the plan
+
+-- x stands in cell i of the plan, by tables
+pub record Section (rules children leaves lens : List ℕ) (count n i x : ℕ) : Type 0 where
   pub rule : i < 64 → x ≡ getD rules i 0
   pub child : (j : ℕ) → j < 512 → i ≡ 64 + j → x ≡ getD children j 0
   pub leaf : (j : ℕ) → j < 64 → i ≡ 576 + j → x ≡ getD leaves j 0
@@ -59,4 +105,12 @@ pub record Section (rules children leaves lens : List ℕ) (count n heads i x : 
   pub part : (l k : ℕ) → l < 84 → k < 9 → i ≡ 724 + 9 * l + k → PartAmong lens count l k x
   pub first : (q : ℕ) → q < 16 → i ≡ 1480 + q → FirstDivision rules n q x
   pub last : (q : ℕ) → q < 16 → i ≡ 1496 + q → LastDivision rules n q x
+
+-- and in the cells behind them
+pub record Cell (rules children leaves lens : List ℕ) (a heads count n i x : ℕ) : Type 0 where
+  pub section : i < 1512 → Section rules children leaves lens count n i x
   pub saved : (c : ℕ) → c < 4 → i ≡ 1512 + c → MostSaved leaves heads c x
+  pub multiplier : i ≡ 1516 → x ≡ a
+  pub nonterminals : i ≡ 1517 → x ≡ heads
+  pub lengths : i ≡ 1518 → x ≡ count
+  pub way : (r j k : ℕ) → j < 8 → k < 3 → i ≡ 1519 + 3 * (8 * r + j) + k → WayOf rules children leaves a r j k x

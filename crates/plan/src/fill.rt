@@ -9,7 +9,9 @@ ghost use Rattle.sizes.specs.Sizes.{largest};
 ghost use Rattle.expansions.specs.Tables.{RulesHeld};
 ghost use Rattle.plan.specs.Plan.{ruleCount, savedAt, Prepared};
 ghost use Rattle.plan.specs.Sections.{NotHead, FirstDivision, LastDivision, MostSaved};
-ghost use Rattle.plan.specs.Sections.{LeastLeaves, PartAmong, Small, LengthCells, Section};
+ghost use Rattle.plan.specs.Sections.{PackedLeaves, PartAmong, Small, Wide, LengthCells, Section, Cell};
+use crate::ways::NO_CELL;
+use crate::ways::way_at;
 use expansions::pack_rules;
 use expansions::rule_at;
 use expansions::token_of;
@@ -17,20 +19,19 @@ use sheet::GrammarTable;
 use sheet::Rule;
 use sizes::lengths;
 
-// What stands for "no tree", above every total.
-const NONE: u64 = 72057594037927936;
-
-// The least cost of a leaf rule of nonterminal q with each n, at 4 × q + n; the cap where there is none.
+// The packed cell of the leaf rules of nonterminal q with each n, at 4 × q + n: 64 × the least cost, or the cap, and the first rule that
+// has it.
 fn least_leaves(rules: &[u64; 64], a: u16, count: usize) -> [u64; 64]
     requires { ⌜ count ≤ 64 ⌝ }
     ensures { λ x. ⌜
-        ((s : Sheet) → RulesHeld s (now (rules .entry)) → a ≡ s .grammar .multiplier → count ≡ ruleCount s → LeastLeaves s x)
+        ((s : Sheet) → RulesHeld s (now (rules .entry)) → a ≡ s .grammar .multiplier → count ≡ ruleCount s → PackedLeaves s x)
         ⌝ }
 {
-    let mut leaves = [NONE; 64];
+    let mut leaves = [NO_CELL; 64];
     let mut r: usize = 0;
     while r < count {
         let rule = rule_at(rules, r);
+        let number = r as u64;
         r += 1;
         match rule {
             Rule::Division {
@@ -40,10 +41,10 @@ fn least_leaves(rules: &[u64; 64], a: u16, count: usize) -> [u64; 64]
             } => {}
             Rule::Leaf { head, weight, n } => {
                 let at = 4 * (head as usize) + (n as usize);
-                let cost = (a as u64) * (weight as u64);
+                let cell = 64 * ((a as u64) * (weight as u64)) + number;
                 if at < 64 {
-                    if cost < leaves[at] {
-                        leaves[at] = cost;
+                    if cell < leaves[at] {
+                        leaves[at] = cell;
                     }
                 }
             }
@@ -70,7 +71,7 @@ fn part_at(lens: &[u32; 84], count: usize, l: usize, k: usize) -> u64
 }
 
 // Whether rule r is a division of nonterminal q.
-fn is_division(rules: &[u64; 64], r: usize, q: usize) -> bool
+fn is_division_of(rules: &[u64; 64], r: usize, q: usize) -> bool
     requires { ⌜ r < 64 ⌝ }
     ensures { λ x. ⌜ ((s : Sheet) → RulesHeld s (now (rules .entry)) → x ≡ false → NotHead s q r) ⌝ }
 {
@@ -101,7 +102,7 @@ fn first_of(rules: &[u64; 64], n: usize, q: usize) -> u64
 {
     let mut r: usize = 0;
     while r < n {
-        if is_division(rules, r, q) {
+        if is_division_of(rules, r, q) {
             return r as u64;
         }
         r += 1;
@@ -117,7 +118,7 @@ fn last_of(rules: &[u64; 64], n: usize, q: usize) -> u64
     let mut r = n;
     while 0 < r {
         let rule = r - 1;
-        if is_division(rules, rule, q) {
+        if is_division_of(rules, rule, q) {
             return r as u64;
         }
         r = rule;
@@ -142,13 +143,15 @@ fn larger(a: u64, b: u64) -> u64
 // The most that a leaf of nonterminal q is cheaper with c onsets carried in than with none.
 fn saved_at(leaves: &[u64; 64], q: usize, c: usize) -> u64
     requires { ⌜ (q < 16) × (c < 4) ⌝ }
-    ensures { λ x. ⌜ ((s : Sheet) → LeastLeaves s (now (leaves .entry)) → x ≡ largest (savedAt s q c) 4) ⌝ }
+    ensures { λ x. ⌜
+        ((s : Sheet) → GoodRules (s .grammar) → PackedLeaves s (now (leaves .entry)) → x ≡ largest (savedAt s q c) 4)
+        ⌝ }
 {
     let mut most: u64 = 0;
     let mut e: usize = 0;
     while e < 4 {
         let kind = token_of(c + e) as usize;
-        let x = excess(leaves[4 * q + e], leaves[4 * q + kind]);
+        let x = excess(leaves[4 * q + e] / 64, leaves[4 * q + kind] / 64);
         most = larger(most, x);
         e += 1;
     }
@@ -170,7 +173,7 @@ fn saved_by(leaves: &[u64; 64], heads: usize, c: usize) -> u64
     most
 }
 
-// Cell i of the plan's sections. Behind the last length stands 0, so that no part is looked for there.
+// Cell i of the plan's tables. Behind the last length stands 0, so that no part is looked for there.
 fn section_at<'a>(
     rules: &'a [u64; 64],
     children: &'a [u8; 512],
@@ -178,15 +181,13 @@ fn section_at<'a>(
     lens: &'a [u32; 84],
     count: usize,
     n: usize,
-    heads: usize,
     i: usize,
 ) -> u64
     requires { ⌜
-        (count ≤ 84) × (i < 1516) × Small (now children) × Small (now lens) × LengthCells (now lens) count × (n ≤ 64)
-        × (heads ≤ 16)
+        (count ≤ 84) × (i < 1512) × Small (now children) × Small (now lens) × LengthCells (now lens) count × (n ≤ 64)
         ⌝ }
     ensures { λ x. ⌜
-        Section (now (rules .entry)) (now (children .entry)) (now (leaves .entry)) (now (lens .entry)) count n heads i x
+        Section (now (rules .entry)) (now (children .entry)) (now (leaves .entry)) (now (lens .entry)) count n i x
         ⌝ }
 {
     if i < 64 {
@@ -200,9 +201,6 @@ fn section_at<'a>(
     }
     if i < 724 {
         return lens[i - 640] as u64;
-    }
-    if 1512 <= i {
-        return saved_by(leaves, heads, i - 1512);
     }
     if 1496 <= i {
         return last_of(rules, n, i - 1496);
@@ -220,28 +218,64 @@ fn section_at<'a>(
     count as u64
 }
 
+// Cell i of the plan: of its tables, or what is saved, the three numbers and the ways behind them.
+fn cell_at<'a>(
+    rules: &'a [u64; 64],
+    children: &'a [u8; 512],
+    leaves: &'a [u64; 64],
+    lens: &'a [u32; 84],
+    a: u16,
+    heads: usize,
+    count: usize,
+    n: usize,
+    i: usize,
+) -> u64
+    requires { ⌜
+        (count ≤ 84) × (i < 3055) × Small (now children) × Small (now lens) × LengthCells (now lens) count × (n ≤ 64)
+        × (heads ≤ 16) × Wide (now leaves)
+        ⌝ }
+    ensures { λ x. ⌜
+        Cell (now (rules .entry)) (now (children .entry)) (now (leaves .entry)) (now (lens .entry)) a heads count n i x
+        ⌝ }
+{
+    if i < 1512 {
+        return section_at(rules, children, leaves, lens, count, n, i);
+    }
+    if i < 1516 {
+        return saved_by(leaves, heads, i - 1512);
+    }
+    if i == 1516 {
+        return a as u64;
+    }
+    if i == 1517 {
+        return heads as u64;
+    }
+    if i == 1518 {
+        return count as u64;
+    }
+    let at = i - 1519;
+    way_at(rules, children, leaves, a, at / 24, at / 3 % 8, at % 3)
+}
+
 // The plan of a grammar.
-pub fn prepare(grammar: GrammarTable) -> [u64; 1520]
+pub fn prepare(grammar: GrammarTable) -> [u64; 3055]
     requires { ⌜ ((h : Grammar) × GoodRules h × (grammar ≡ grammarTable h)) ⌝ }
     ensures { λ r. ⌜ ((s : Sheet) → GoodRules (s .grammar) → grammar ≡ grammarTable (s .grammar) → Prepared s r) ⌝ }
 {
     let rules = pack_rules(grammar);
     let children = grammar.children;
-    let leaves = least_leaves(&rules, grammar.multiplier, grammar.count);
+    let a = grammar.multiplier;
+    let leaves = least_leaves(&rules, a, grammar.count);
     let reached = lengths(grammar);
     let lens = reached.cells;
     let count = reached.count;
     let n = grammar.count;
     let heads = grammar.nonterminals as usize;
-    let mut plan = [0u64; 1520];
+    let mut plan = [0u64; 3055];
     let mut i: usize = 0;
-    while i < 1516 {
-        plan[i] = section_at(&rules, &children, &leaves, &lens, count, n, heads, i);
+    while i < 3055 {
+        plan[i] = cell_at(&rules, &children, &leaves, &lens, a, heads, count, n, i);
         i += 1;
     }
-    plan[1516] = grammar.multiplier as u64;
-    plan[1517] = heads as u64;
-    plan[1518] = count as u64;
-    plan[1519] = n as u64;
     plan
 }

@@ -1,14 +1,15 @@
 // What the search looks up of a grammar, prepared once for a sheet in one flat array: a reference to a struct is not covered, and a
 // grammar by value is copied at each call. The array is read through the functions below alone.
 ghost use mathlib.Core.Path.{_≡_};
-ghost use Prim.Native.Nat.{_+_, _*_, _<_, _≤_};
+ghost use Prim.Native.Nat.{_+_, _*_, _/_, _<_, _≤_};
 ghost use Rattle.sheet.specs.Sheet.{Sheet};
 ghost use Rattle.trees.specs.ValidTrees.{weightAt};
-ghost use Rattle.plan.specs.Plan.{childCell, leafCell, lengthCell, firstCell, lastCell, savedCell};
-ghost use Rattle.plan.specs.Plan.{multiplierCell, nonterminalsCell, lengthsCell, rulesCell};
-ghost use Rattle.plan.specs.Plan.{lengths, Prepared, PartsOf, SplitAt, LeafRule};
+ghost use Rattle.plan.specs.Plan.{childCell, leafCell, lengthCell, firstCell, lastCell, savedCell, wayCell};
+ghost use Rattle.plan.specs.Plan.{multiplierCell, nonterminalsCell, lengthsCell};
+ghost use Rattle.plan.specs.Plan.{lengths, Prepared, PartsOf, SplitAt};
 
 mod fill;
+mod ways;
 
 use expansions::unpacked;
 pub use fill::prepare;
@@ -22,23 +23,40 @@ pub struct Split {
 }
 
 // The nonterminal of part j of rule r.
-pub fn child(plan: &[u64; 1520], r: usize, j: usize) -> usize
+pub fn child(plan: &[u64; 3055], r: usize, j: usize) -> usize
     requires { ⌜ (r < 64) × (j < 8) ⌝ }
     ensures { λ x. ⌜ x ≡ childCell (now (plan .entry)) r j ⌝ }
 {
     plan[64 + 8 * r + j] as usize
 }
 
-// The least cost of a leaf rule of nonterminal q with this n, or the cap.
-pub fn least_leaf(plan: &[u64; 1520], q: usize, n: usize) -> u64
+// The packed cell of the leaf rules of nonterminal q with this n: 64 × the least cost, or the cap, and the first rule that has it.
+pub fn leaf_cell(plan: &[u64; 3055], q: usize, n: usize) -> u64
     requires { ⌜ (q < 16) × (n < 4) ⌝ }
     ensures { λ x. ⌜ x ≡ leafCell (now (plan .entry)) q n ⌝ }
 {
     plan[576 + 4 * q + n]
 }
 
+// The least cost of a leaf rule of nonterminal q with this n, or the cap.
+pub fn least_leaf(plan: &[u64; 3055], q: usize, n: usize) -> u64
+    requires { ⌜ (q < 16) × (n < 4) ⌝ }
+    ensures { λ x. ⌜ x ≡ leafCell (now (plan .entry)) q n / 64 ⌝ }
+{
+    plan[576 + 4 * q + n] / 64
+}
+
+// Where only part j of rule r has an onset, what the other parts and the rule add, packed: to cell 0 of the part to come to cell 0 of the
+// whole (i = 0), to its cell 1 to come to cell 0 (i = 1), and to its cell 1 to come to cell 1 (i = 2).
+pub fn way(plan: &[u64; 3055], r: usize, j: usize, i: usize) -> u64
+    requires { ⌜ (r < 64) × (j < 8) × (i < 3) ⌝ }
+    ensures { λ x. ⌜ x ≡ wayCell (now (plan .entry)) r j i ⌝ }
+{
+    plan[1519 + 3 * (8 * r + j) + i]
+}
+
 // The first rule that is a division of nonterminal q; the number of rules where there is none.
-pub fn first_division(plan: &[u64; 1520], q: usize) -> usize
+pub fn first_division(plan: &[u64; 3055], q: usize) -> usize
     requires { ⌜ q < 16 ⌝ }
     ensures { λ x. ⌜ x ≡ firstCell (now (plan .entry)) q ⌝ }
 {
@@ -46,7 +64,7 @@ pub fn first_division(plan: &[u64; 1520], q: usize) -> usize
 }
 
 // One past the last of them; 0 where there is none.
-pub fn last_division(plan: &[u64; 1520], q: usize) -> usize
+pub fn last_division(plan: &[u64; 3055], q: usize) -> usize
     requires { ⌜ q < 16 ⌝ }
     ensures { λ x. ⌜ x ≡ lastCell (now (plan .entry)) q ⌝ }
 {
@@ -54,43 +72,29 @@ pub fn last_division(plan: &[u64; 1520], q: usize) -> usize
 }
 
 // The most that a leaf is cheaper with c onsets carried in than with none.
-pub fn saved(plan: &[u64; 1520], c: usize) -> u64
+pub fn saved(plan: &[u64; 3055], c: usize) -> u64
     requires { ⌜ c < 4 ⌝ }
     ensures { λ x. ⌜ x ≡ savedCell (now (plan .entry)) c ⌝ }
 {
     plan[1512 + c]
 }
 
-// The multiplier a.
-pub fn multiplier(plan: &[u64; 1520]) -> u64
-    ensures { λ x. ⌜ x ≡ multiplierCell (now (plan .entry)) ⌝ }
-{
-    plan[1516]
-}
-
 // The number of nonterminals.
-pub fn nonterminals(plan: &[u64; 1520]) -> usize
+pub fn nonterminals(plan: &[u64; 3055]) -> usize
     ensures { λ x. ⌜ x ≡ nonterminalsCell (now (plan .entry)) ⌝ }
 {
     plan[1517] as usize
 }
 
 // The number of lengths.
-pub fn length_count(plan: &[u64; 1520]) -> usize
+pub fn length_count(plan: &[u64; 3055]) -> usize
     ensures { λ x. ⌜ x ≡ lengthsCell (now (plan .entry)) ⌝ }
 {
     plan[1518] as usize
 }
 
-// The number of rules.
-pub fn rule_count(plan: &[u64; 1520]) -> usize
-    ensures { λ x. ⌜ x ≡ rulesCell (now (plan .entry)) ⌝ }
-{
-    plan[1519] as usize
-}
-
 // The length with index l.
-pub fn length(plan: &[u64; 1520], l: usize) -> Units
+pub fn length(plan: &[u64; 3055], l: usize) -> Units
     requires { ⌜ (l < 84) × ((s : Sheet) × Prepared s (now plan)) ⌝ }
     ensures { λ r. ⌜ r .0 ≡ lengthCell (now (plan .entry)) l ⌝ }
 {
@@ -98,7 +102,7 @@ pub fn length(plan: &[u64; 1520], l: usize) -> Units
 }
 
 // The multiplier times the weight of rule r; 0 where there is no rule.
-pub fn cost(plan: &[u64; 1520], r: usize) -> u64
+pub fn cost(plan: &[u64; 3055], r: usize) -> u64
     requires { ⌜ (r < 64) × ((s : Sheet) × Prepared s (now plan)) ⌝ }
     ensures { λ x. ⌜
         (x ≤ 4294836225) × ((s : Sheet) → Prepared s (now (plan .entry)) → x ≡ s .grammar .multiplier * weightAt s r)
@@ -121,7 +125,7 @@ pub fn cost(plan: &[u64; 1520], r: usize) -> u64
 }
 
 // The length with index l in k parts; arity 0 where k is no arity or there is no such length.
-fn split_by(plan: &[u64; 1520], l: usize, k: usize) -> Split
+fn split_by(plan: &[u64; 3055], l: usize, k: usize) -> Split
     requires { ⌜ l < 84 ⌝ }
     ensures { λ x. ⌜ (x .arity ≤ 8) × ((s : Sheet) → Prepared s (now (plan .entry)) → PartsOf s l k x) ⌝ }
 {
@@ -142,7 +146,7 @@ fn split_by(plan: &[u64; 1520], l: usize, k: usize) -> Split
 }
 
 // How rule r divides an interval of nonterminal q and the length with index l.
-pub fn split_at(plan: &[u64; 1520], q: usize, l: usize, r: usize) -> Split
+pub fn split_at(plan: &[u64; 3055], q: usize, l: usize, r: usize) -> Split
     requires { ⌜ (r < 64) × (l < 84) ⌝ }
     ensures { λ x. ⌜ (x .arity ≤ 8) × ((s : Sheet) → Prepared s (now (plan .entry)) → l < lengths s → SplitAt s q l r x) ⌝ }
 {
@@ -163,33 +167,5 @@ pub fn split_at(plan: &[u64; 1520], q: usize, l: usize, r: usize) -> Split
             weight: _,
             n: _,
         } => Split { arity: 0, part: 0 },
-    }
-}
-
-// Whether rule r is a leaf of nonterminal q with this n.
-pub fn is_leaf(plan: &[u64; 1520], r: usize, q: usize, n: usize) -> bool
-    requires { ⌜ r < 64 ⌝ }
-    ensures { λ x. ⌜ ((s : Sheet) → Prepared s (now (plan .entry)) → LeafRule s r q n x) ⌝ }
-{
-    let rule = unpacked(plan[r]);
-    match rule {
-        Rule::Division {
-            head: _,
-            weight: _,
-            arity: _,
-        } => false,
-        Rule::Leaf {
-            head,
-            weight: _,
-            n: m,
-        } => {
-            if head as usize != q {
-                return false;
-            }
-            if m as usize != n {
-                return false;
-            }
-            true
-        }
     }
 }

@@ -1,6 +1,6 @@
 -- What the functions that solve rows ask of each other and tell each other: `lift` of `solve`, `part` of `lift`, `solve` of `parts`.
-use Prim.Native.Nat.{ℕ, _+_, _-_, _*_, _≤_, _<_}
-use mathlib.Core.Path.{_≡_, refl, sym, ap, _∙_}
+use Prim.Native.Nat.{ℕ, _+_, _-_, _*_, _/_, _≤_, _<_, min}
+use mathlib.Core.Path.{_≡_, refl, ap, subst, _∙_}
 use mathlib.Core.List.{List, [], _∷_}
 use native.Mathlib.Nat.{mul-le-mul-right}
 use native.Mathlib.Omega.{arith}
@@ -8,32 +8,35 @@ use lib.ListN.{getD}
 use Rattle.sheet.specs.declared.clock.Units.{Units}
 use Rattle.sheet.specs.Sheet.{Sheet}
 use Rattle.derivations.specs.Derivation.{Item}
-use Rattle.derivations.specs.Minima.{lowest}
+use Rattle.derivations.specs.Minima.{lowest, only, only-same}
 use Rattle.trees.specs.Room.{good-division}
-use Rattle.trees.specs.LeastTotal.{NONE, cellOf}
+use Rattle.trees.specs.LeastTotal.{NONE}
 use Rattle.expansions.specs.Tables.{lastUnit}
 use Rattle.expansions.specs.Items.{itemOf}
 use Rattle.expansions.specs.Places.{first-most}
 use Rattle.plan.specs.Plan.{lengthAt, leastLeaf, leafCell, lengthCell, firstCell, lastCell, ruleCount, DivisionsIn, Divides}
-use Rattle.plan.specs.PlanLaws.{lengths-most, least-leaf-most, length-positive}
-use Rattle.rows.specs.declared.table.Bar.{Bar}
-use Rattle.rows.specs.Vectors.{vec, Low}
-use Rattle.rows.specs.VectorLaws.{four, vec-same, low-eq}
-use Rattle.rows.specs.Rows.{itemAt, Inhabited, slotOf, Sound, Entry, Row, Taken, SolveEntry, PartEntry, LiftEntry, PartsEntry}
-use Rattle.rows.specs.Rows.{leafTotal, LeafEntry, SlotEntry}
+use Rattle.plan.specs.PlanLaws.{lengths-most, least-leaf-most, leaf-cell-least, length-positive}
+use Rattle.plan.specs.Packed.{packedLeaf, packed-leaf-most}
+use Rattle.rows.specs.declared.slots.Bar.{Bar}
+use Rattle.rows.specs.Vectors.{vec, Low, lowered, totalsOf}
+use Rattle.rows.specs.VectorLaws.{four, low-eq, only-other}
+use Rattle.rows.specs.PackedLaws.{packedCell, packedLeafTotal, packed-cell-empty}
+use Rattle.rows.specs.Slots.{itemAt, Inhabited, slotIn, Sound, SlotEntry}
+use Rattle.rows.specs.Rows.{Entry, Row, Taken, SolveEntry, PartEntry, LiftEntry, ReachedTo, MovedTo, PartsEntry, LeafEntry}
 use Rattle.rows.specs.NameLaws.{stands-near, stands-length, stands-head, stands-len, stands-next, stands-some, stands-none}
 use Rattle.rows.specs.NameLaws.{slot-entry}
-use Rattle.rows.specs.CellLaws.{cell-leaf}
-use Rattle.rows.specs.TurnLaws.{taken-none, taken-empty, Ruled, ruled-past, ruled-all}
+use Rattle.rows.specs.IdleLaws.{taken-rest}
+use Rattle.rows.specs.TurnLaws.{taken-none, taken-more, taken-empty, Ruled, ruled-past, ruled-all}
 
 -- ---- `lift` calls `place_of` and `solve`
 
 -- what a call of `place_of` tells
 abbrev pub PlaceOf : List ℕ → Bar → (q l from c at : ℕ) → Type 0
-PlaceOf plan bar q l from c at = (s : Sheet) → SlotEntry s plan bar q l from c → at ≡ 4 * slotOf s q l (from - bar .first) c
+PlaceOf plan bar q l from c at =
+    (s : Sheet) → SlotEntry s plan bar q l from c → at ≡ 4 * slotIn s (bar .number) q l (from - bar .first) c
 
-module _ {s : Sheet} {plan units rows : List ℕ} {bar : Bar} {q l : ℕ} {left : Units} {from : ℕ} {v : List ℕ} {c : ℕ} {o : List ℕ}
-    (h : LiftEntry s plan units rows bar q l left from v c o) where
+module _ {s : Sheet} {plan units rows : List ℕ} {bar : Bar} {q l : ℕ} {left : Units} {from : ℕ} {v : List ℕ} {zero a c : ℕ} {o : List ℕ}
+    (h : LiftEntry s plan units rows bar q l left from v zero a c o) where
   pub lift-slot : SlotEntry s plan bar q l from c
   lift-slot = slot-entry (h .stands) (h .inhabited) (h .few)
 
@@ -44,12 +47,13 @@ module _ {s : Sheet} {plan units rows : List ℕ} {bar : Bar} {q l : ℕ} {left 
     place = told s lift-slot;
   }
 
--- ---- `part` calls `least_leaf`, or `lift` for each carry state
+  -- the row of the item from c
+  pub lift-more : {after y t o′ : List ℕ} → Row s after (itemAt s q l left) c y → t ≡ totalsOf y → o′ ≡ lowered o a t
+      → Taken s after (itemAt s q l left) v (c + 1) o′
+  lift-more {t = t} row et e =
+      taken-more (h .taken) (h .stands .in-bar .prepared .good) (h .few) row et (e ∙ ap (λ (x : ℕ). lowered o x t) (h .total-is))
 
--- what a call of `lift` from carry state c tells
-abbrev pub Lifts : (plan units : List ℕ) → Bar → (q l : ℕ) → Units → ℕ → List ℕ → ℕ → (before o after r : List ℕ) → Type 0
-Lifts plan units bar q l left from v c before o after r =
-    (s : Sheet) → LiftEntry s plan units before bar q l left from v c o → Taken s after (itemAt s q l left) v (c + 1) r
+-- ---- `part` calls `least_leaf`, or `lift` for each carry state
 
 module _ {s : Sheet} {plan units rows : List ℕ} {bar : Bar} {q l : ℕ} {left : Units} {from to : ℕ} {v : List ℕ}
     (h : PartEntry s plan units rows bar q l left from to v) where
@@ -60,13 +64,13 @@ module _ {s : Sheet} {plan units rows : List ℕ} {bar : Bar} {q l : ℕ} {left 
   pub leaf-asked : {n : ℕ} → n < 4 → (q < 16) × (n < 4)
   leaf-asked k = (stands-head (h .stands), k)
 
-  module _ {w x y z : ℕ} (ew : w ≡ leafCell plan q 0) (ex : x ≡ leafCell plan q 1) (ey : y ≡ leafCell plan q 2)
-      (ez : z ≡ leafCell plan q 3) where
+  module _ {w x y z : ℕ} (ew : w ≡ leafCell plan q 0 / 64) (ex : x ≡ leafCell plan q 1 / 64) (ey : y ≡ leafCell plan q 2 / 64)
+      (ez : z ≡ leafCell plan q 3 / 64) where
     leaves-are : w ∷ x ∷ y ∷ z ∷ [] ≡ vec (leastLeaf s q)
     leaves-are = four (ew ∙ at 0 (omega arith)) (ex ∙ at 1 (omega arith)) (ey ∙ at 2 (omega arith)) (ez ∙ at 3 (omega arith))
       where
-        at : (n : ℕ) → n < 4 → leafCell plan q n ≡ leastLeaf s q n
-        at n k = h .stands .in-bar .prepared .leaves q n (stands-head (h .stands)) k
+        at : (n : ℕ) → n < 4 → leafCell plan q n / 64 ≡ leastLeaf s q n
+        at n k = leaf-cell-least s plan (h .stands .in-bar .prepared) q n (stands-head (h .stands)) k
 
     pub dot-asked : Low (w ∷ x ∷ y ∷ z ∷ []) × Low v
     dot-asked = (low-eq _ (leastLeaf s q) leaves-are (least-leaf-most s q), h .low)
@@ -79,34 +83,39 @@ module _ {s : Sheet} {plan units rows : List ℕ} {bar : Bar} {q l : ℕ} {left 
 
   -- the part has one: the vector is taken over it by carry state
   module _ (k : from < to) where
-    entered : {now o : List ℕ} (c : ℕ) → c < 4 → Taken s now g v c o → LiftEntry s plan units now bar q l left from v c o
-    entered c few taken = record {
+    pub lift-entry : {now o : List ℕ} {zero a b d c : ℕ} → c < 4 → zero ≡ getD v 0 0 → MovedTo v c a b d → Taken s now g v c o
+        → LiftEntry s plan units now bar q l left from v zero a c o
+    lift-entry few first moved taken = record {
       stands = h .stands;
       few = few;
       inhabited = omega (arith, h .ends, stands-next (h .stands));
       low = h .low;
+      zero-is = first;
+      total-is = moved .first few;
       taken = taken;
     }
 
-    pub lift-0 : LiftEntry s plan units rows bar q l left from v 0 (vec (λ _. NONE))
-    lift-0 = entered 0 (omega arith) (taken-none g v (h .sound))
+    -- none yet
+    pub lift-none : Taken s rows g v 0 (vec (λ _. NONE))
+    lift-none = taken-none g v (h .sound)
 
-    module _ {t0 r0 : List ℕ} (told0 : Lifts plan units bar q l left from v 0 rows (vec (λ _. NONE)) t0 r0) where
-      pub lift-1 : LiftEntry s plan units t0 bar q l left from v 1 r0
-      lift-1 = entered 1 (omega arith) (told0 s lift-0)
+    -- those behind the last that is reached lower nothing
+    pub lift-all : {now o : List ℕ} {c n : ℕ} → ReachedTo v n → c ≡ n → Taken s now g v c o → Taken s now g v 4 o
+    lift-all {now} {o} {c} {n} reached e taken = taken-rest s (h .stands .in-bar .prepared .good) g reached (subst (λ
+        (m : ℕ). Taken s now g v m o) e taken)
 
-      module _ {t1 r1 : List ℕ} (told1 : Lifts plan units bar q l left from v 1 t0 r0 t1 r1) where
-        pub lift-2 : LiftEntry s plan units t1 bar q l left from v 2 r1
-        lift-2 = entered 2 (omega arith) (told1 s lift-1)
+-- the totals move up
+pub moved-none : (v : List ℕ) → MovedTo v 0 (getD v 0 0) (getD v 1 0) (getD v 2 0)
+moved-none v = record { first = λ _. refl; second = λ _. refl; third = λ _. refl }
 
-        module _ {t2 r2 : List ℕ} (told2 : Lifts plan units bar q l left from v 2 t1 r1 t2 r2) where
-          pub lift-3 : LiftEntry s plan units t2 bar q l left from v 3 r2
-          lift-3 = entered 3 (omega arith) (told2 s lift-2)
+pub moved-more : {v : List ℕ} {c a b d e : ℕ} → MovedTo v c a b d → e ≡ getD v 3 0 → MovedTo v (c + 1) b d e
+moved-more {v} {c} {b = b} {d} {e} m k = record {
+  first = m .second;
+  second = λ h. m .third (omega arith) ∙ ap (λ (i : ℕ). getD v i 0) (omega arith);
+  third = λ h. k ∙ ap (λ (i : ℕ). getD v i 0) (omega arith);
+}
 
-          pub lift-all : {t3 r3 : List ℕ} → Lifts plan units bar q l left from v 3 t2 r2 t3 r3 → Taken s t3 g v 4 r3
-          lift-all told3 = told3 s lift-3
-
--- ---- `solve` and `cells` call `leaf_row`
+-- ---- `solve` calls `leaf_row`
 
 module _ {s : Sheet} {plan units rows : List ℕ} {bar : Bar} {q l : ℕ} {left : Units} {from c : ℕ} {len : Units}
     (e : Entry s plan units rows bar q l left from c) (el : len .0 ≡ lengthCell plan l) where
@@ -127,9 +136,9 @@ module _ {s : Sheet} {plan units rows : List ℕ} {bar : Bar} {q l : ℕ} {left 
     nonterminal = e .stands .nonterminal;
   }
 
-  pub leaf-told : {r : List ℕ} → r ≡ vec (leafTotal s (itemOf q (record { left = left; len = len })) c)
-      → r ≡ vec (leafTotal s (itemAt s q l left) c)
-  leaf-told k = k ∙ ap (λ (n : ℕ). vec (leafTotal s (record { nonterminal = q; left = left .0; len = n }) c)) same-len
+  pub leaf-told : {r : List ℕ} → r ≡ vec (packedLeafTotal s (itemOf q (record { left = left; len = len })) c)
+      → r ≡ vec (packedLeafTotal s (itemAt s q l left) c)
+  leaf-told k = k ∙ ap (λ (n : ℕ). vec (packedLeafTotal s (record { nonterminal = q; left = left .0; len = n }) c)) same-len
 
   -- ---- `cells` looks whether an onset lies inside
 
@@ -139,17 +148,39 @@ module _ {s : Sheet} {plan units rows : List ℕ} {bar : Bar} {q l : ℕ} {left 
   pub entry-first : from ≤ 512
   entry-first = omega (arith, e .stands .first, first-most s (e .stands .in-bar .onsets .good) (left .0))
 
-  -- none does: the item is a leaf
-  pub entry-leaf : {r : List ℕ} → left .0 + len .0 ≤ getD units from 0
-      → r ≡ vec (leafTotal s (itemOf q (record { left = left; len = len })) c) → Row s rows (itemAt s q l left) c r
-  entry-leaf k f =
-      let none = stands-none (e .stands) (omega (arith, same-len)) in
-      let good = e .stands .in-bar .prepared .good in
+  -- none does: the item is a leaf of what is carried in, and nothing is carried on
+  pub entry-asked : (q < 16) × (c < 4)
+  entry-asked = (stands-head (e .stands), e .few)
+
+  pub entry-leaf : {w : ℕ} → left .0 + len .0 ≤ getD units from 0 → w ≡ leafCell plan q c
+      → Row s rows (itemAt s q l left) c (w ∷ 64 * NONE ∷ 64 * NONE ∷ 64 * NONE ∷ [])
+  entry-leaf {w} k f =
       record {
-        is = leaf-told f ∙ vec-same (leafTotal s (itemAt s q l left) c) (cellOf s (itemAt s q l left) c)
-            (λ x h. sym (cell-leaf s good (itemAt s q l left) c x (e .few) h none));
+        is = four zeroth (other 1 (omega arith) (λ z. omega arith)) (other 2 (omega arith) (λ z. omega arith))
+            (other 3 (omega arith) (λ z. omega arith));
         sound = e .sound;
       }
+    where
+      g : Item
+      g = itemAt s q l left
+
+      cell : (x : ℕ) → x < 4 → packedCell s g c x ≡ min (64 * NONE) (packedLeaf s q c + 64 * only NONE 0 x)
+      cell x h =
+          packed-cell-empty s (e .stands .in-bar .prepared .good) g c x (e .few) h (stands-none (e .stands) (omega (arith, same-len)))
+
+      zeroth : w ≡ packedCell s g c 0
+      zeroth =
+          omega (
+            arith,
+            f,
+            e .stands .in-bar .prepared .leaves q c (entry-asked .0) (e .few),
+            cell 0 (omega arith),
+            only-same NONE 0,
+            packed-leaf-most s q c,
+          )
+
+      other : (x : ℕ) → x < 4 → (x ≡ 0 → ⊥) → 64 * NONE ≡ packedCell s g c x
+      other x h n = omega (arith, cell x h, only-other 0 x n)
 
   -- one does: its row has a place
   module _ (k : getD units from 0 < left .0 + len .0) where
@@ -183,24 +214,27 @@ module _ {s : Sheet} {plan units rows : List ℕ} {bar : Bar} {q l : ℕ} {left 
   pub rules-begin : {r : ℕ} {now o : List ℕ} → r ≡ firstCell plan q → Ruled s now (itemAt s q l left) c 0 o → Done now r o
   rules-begin {r} k p = (
     omega (arith, k, divisions .from-in),
-    ruled-past s q l left 0 r (omega arith) p (λ i _ less w ks rule _. omega (arith, k, divisions .within i w ks rule .0)),
+    ruled-past s q l left p r (omega arith) (λ i _ less w ks rule _. omega (arith, k, divisions .within i w ks rule .0)),
   )
 
   pub rules-end : {n r : ℕ} {now o : List ℕ} → n ≡ lastCell plan q → n ≤ r → Done now r o → Row s now (itemAt s q l left) c o
   rules-end {r = r} k high done =
       ruled-all (e .entry .stands .in-bar .prepared .good) (e .entry .few) refl
-      (ruled-past s q l left r (ruleCount s) (done .0) (done .1)
+      (ruled-past s q l left (done .1) (ruleCount s) (done .0)
       (λ i least _ w ks rule _. omega (arith, k, divisions .within i w ks rule .1)))
 
   module _ {r k h : ℕ} (d : Divides s q l r k h) where
-    pub parts-entry : {now : List ℕ} → Sound s now → PartsEntry s plan units now bar r k h left from c
+    pub parts-entry : {now : List ℕ} → Sound s now → PartsEntry s plan units now bar r 0 k h left from c
     parts-entry sound = record {
       in-bar = e .entry .stands .in-bar;
       q = q;
       whole = l;
+      start = left .0;
       divides = d;
       whole-in = e .entry .stands .length-in;
       aligned = e .entry .stands .aligned;
+      part-in = omega arith;
+      left-is = omega arith;
       first = e .entry .stands .first;
       few = e .entry .few;
       sound = sound;

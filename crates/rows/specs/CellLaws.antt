@@ -23,9 +23,16 @@ use Rattle.trees.specs.LeastTotal.{NONE, carries, cellOf}
 use Rattle.trees.specs.Expansions.{Step, step-of, leaf-expands, division-expands, may-divide}
 use Rattle.trees.specs.Onsets.{early-late, own-distance-most}
 use Rattle.trees.specs.Laws.{lawful, falls}
-use Rattle.plan.specs.Plan.{ruleCount, leafCost, leastLeaf}
-use Rattle.rows.specs.VectorLaws.{lowest-capped, lowest-both, lowest-more, lowest-none}
-use Rattle.rows.specs.Rows.{leafTotal}
+use Rattle.plan.specs.Leaves.{ruleCount, leafCost, leastLeaf}
+use Rattle.rows.specs.VectorLaws.{only-other, lowest-capped, lowest-both, lowest-more, lowest-none}
+
+-- what a leaf at an item totals that c onsets are carried into, by carry state behind it: the least leaf rule of the kind of what is placed
+unfoldable pub leafTotal : Sheet → Item → (c m : ℕ) → ℕ
+unfolding leastLeaf earlyCount ownDistance lateCount only
+leafTotal s g c m =
+    min NONE
+    (leastLeaf s (g .nonterminal) (token (c + earlyCount s (g .left) (g .len))) + ownDistance s (g .left) (g .len)
+    + only NONE (lateCount s (g .left) (g .len)) m)
 
 -- what rule r totals at an item from carry state c to m, its parts by the cells
 unfoldable pub totalBy : Sheet → Item → (c m r : ℕ) → ℕ
@@ -59,11 +66,6 @@ leaf-n e = cc
 pub leaf-no-division : {h w n h′ w′ : ℕ} {ks : List ℕ} → some (leaf h w n) ≡ some (division h′ w′ ks) → ⊥
 leaf-no-division e = let f : false ≡ true = cc in false≢true f
 
--- a carry state that is none of the four
-only-far : (late m : ℕ) → m < late → only NONE late m ≡ NONE
-unfolding only
-only-far late m h = rw (ne-eqb m late (λ e. omega arith))
-
 pub leaf-total-most : (s : Sheet) (g : Item) (c m : ℕ) → leafTotal s g c m ≤ NONE
 unfolding leafTotal
 leaf-total-most s g c m = omega arith
@@ -73,7 +75,8 @@ module _ (s : Sheet) where
   unfolding cellOf
   cell-none g c m = cell-cap (instanceOf s) (s .grammar .multiplier) NONE carries (λ g. g .len) g c m
 
-  cell-rules : GoodRules (s .grammar) → (g : Item) (c m : ℕ) → c < 4 → m < 4 → cellOf s g c m ≡ lowest NONE (totalBy s g c m) (ruleCount s)
+  pub cell-rules : GoodRules (s .grammar) → (g : Item) (c m : ℕ) → c < 4 → m < 4
+      → cellOf s g c m ≡ lowest NONE (totalBy s g c m) (ruleCount s)
   unfolding totalBy cellOf instanceOf
   cell-rules good g c m hc hm = cell-step (lawful s) (s .grammar .multiplier) NONE (λ g. g .len) (falls s good) g c m hc hm
 
@@ -97,22 +100,22 @@ module _ (s : Sheet) where
   -- ---- a leaf or a division
 
   -- what a leaf adds to its rule's cost
-  abbrev behindLeaf : Item → (m : ℕ) → ℕ
+  abbrev pub behindLeaf : Item → (m : ℕ) → ℕ
   behindLeaf g m = ownDistance s (g .left) (g .len) + only NONE (lateCount s (g .left) (g .len)) m
 
-  abbrev kindOf : Item → (c : ℕ) → ℕ
+  abbrev pub kindOf : Item → (c : ℕ) → ℕ
   kindOf g c = token (c + earlyCount s (g .left) (g .len))
 
-  abbrev costAsLeaf : Item → (c : ℕ) → Option Rule → ℕ
+  abbrev pub costAsLeaf : Item → (c : ℕ) → Option Rule → ℕ
   costAsLeaf g c o = leafCost (s .grammar .multiplier) (g .nonterminal) (kindOf g c) o
 
-  total-leaf : (g : Item) (c m r : ℕ) → instanceOf s .expand g c r ≡ some (atLeaf s g)
+  pub total-leaf : (g : Item) (c m r : ℕ) → instanceOf s .expand g c r ≡ some (atLeaf s g)
       → totalBy s g c m r ≡ s .grammar .multiplier * weightAt s r + behindLeaf g m
   unfolding atLeaf forward
   total-leaf g c m r e = omega (arith, total-some g c m r (atLeaf s g) e)
 
   module _ (g : Item) (c m r : ℕ) (hm : m < 4) where
-    abbrev Splits : Option Rule → Type 0
+    abbrev pub Splits : Option Rule → Type 0
     Splits o = min NONE (totalBy s g c m r) ≡ min NONE (min (costAsLeaf g c o + behindLeaf g m) (divisionBy o (totalBy s g c m r)))
 
     -- a leaf rule: more than three late onsets are no carry state
@@ -125,7 +128,7 @@ module _ (s : Sheet) where
           | yes p ↦ elim (ℕ-discrete n (kindOf g c)) [
             | no k ↦ rw (eq-eqb h (g .nonterminal) p, ne-eqb n (kindOf g c) k) (omega arith)
             | yes q ↦ elim (decLe (lateCount s (g .left) (g .len)) 3) [
-              | no k ↦ omega (arith, only-far (lateCount s (g .left) (g .len)) m (omega arith))
+              | no k ↦ omega (arith, only-other (lateCount s (g .left) (g .len)) m (λ x. omega arith))
               | yes l ↦ absurd (Option·none-ne-some _ (sym e ∙ leaf-expands s g c r (atLeaf s g) (record {
                 weight = w;
                 n = n;
@@ -154,7 +157,7 @@ module _ (s : Sheet) where
         go none e = omega (arith, total-none g c m r e, unfit e)
         go (some x) e = fit x e (step-of s g c r x e)
 
-    split-by : (o : Option Rule) → ruleAt s r ≡ o → Splits o
+    pub split-by : (o : Option Rule) → ruleAt s r ≡ o → Splits o
     split-by none e = go (instanceOf s .expand g c r) refl
       where
         go : (o : Option Expansion) → instanceOf s .expand g c r ≡ o → Splits none
@@ -222,16 +225,28 @@ module _ (s : Sheet) where
         }) in
         rw e (rw part at (total-some g c m r (atDivision g c ks) made) ∙ omega arith)
 
-  -- an item with no onset inside is a leaf
+  -- with no onset inside, an item is not divided, none is early or late, and there is no distance
+  pub division-empty : (g : Item) (c m r : ℕ) → onsetsIn s (g .left) (g .len) ≡ 0 → divisionTotal s g c m r ≡ NONE
+  division-empty g c m r e = division-never g c m r (λ w ks rule may. omega (arith, may-divide s (length ks) (g .left) (g .len) may .1))
+
+  module _ (g : Item) (e : onsetsIn s (g .left) (g .len) ≡ 0) where
+    pub none-early : earlyCount s (g .left) (g .len) ≡ 0
+    none-early = omega (arith, early-late s (g .left) (g .len))
+
+    pub none-late : lateCount s (g .left) (g .len) ≡ 0
+    none-late = omega (arith, early-late s (g .left) (g .len))
+
+    pub no-distance : ownDistance s (g .left) (g .len) ≡ 0
+    no-distance = omega (arith, rw e at (own-distance-most s (g .left) (g .len)))
+
+  -- so it is a leaf
   pub cell-leaf : GoodRules (s .grammar) → (g : Item) (c m : ℕ) → c < 4 → m < 4 → onsetsIn s (g .left) (g .len) ≡ 0
       → cellOf s g c m ≡ leafTotal s g c m
   cell-leaf good g c m hc hm e =
-      let never : (r : ℕ) → divisionTotal s g c m r ≡ NONE =
-      λ r. division-never g c m r (λ w ks rule may. omega (arith, may-divide s (length ks) (g .left) (g .len) may .1)) in
       omega (
         arith,
         cell-split good g c m hc hm,
-        lowest-none NONE (divisionTotal s g c m) (ruleCount s) (λ r. omega (arith, never r)),
+        lowest-none NONE (divisionTotal s g c m) (ruleCount s) (λ r. omega (arith, division-empty g c m r e)),
         leaf-total-most s g c m,
       )
 
@@ -240,7 +255,5 @@ module _ (s : Sheet) where
       → cellOf s g c m ≡ min NONE (leastLeaf s (g .nonterminal) c + only NONE 0 m)
   unfolding leafTotal
   cell-empty good g c m hc hm e =
-      let none-early : earlyCount s (g .left) (g .len) ≡ 0 = omega (arith, early-late s (g .left) (g .len)) in
-      let none-late : lateCount s (g .left) (g .len) ≡ 0 = omega (arith, early-late s (g .left) (g .len)) in
-      let near : ownDistance s (g .left) (g .len) ≡ 0 = omega (arith, rw e at (own-distance-most s (g .left) (g .len))) in
-      cell-leaf good g c m hc hm e ∙ rw (none-early, none-late, near, add-zero c, token-small c hc) (omega arith)
+      cell-leaf good g c m hc hm e
+      ∙ rw (none-early g e, none-late g e, no-distance g e, add-zero c, token-small c hc) (omega arith)

@@ -1,29 +1,26 @@
--- The row of a leaf, as it is computed from what the leaf places.
-use Prim.Native.Nat.{ℕ, zero, suc, _+_, _*_, _≤_, _<_, min}
-use mathlib.Core.Path.{_≡_, refl, ap, _∙_}
+-- The packed row of a leaf, as it is computed from what the leaf places.
+use Prim.Native.Nat.{ℕ, _+_, _*_, _≤_, _<_, min}
+use mathlib.Core.Path.{_≡_, ap, _∙_}
 use mathlib.Core.List.{List}
 use native.Mathlib.Nat.{mul-le-mul}
 use native.Mathlib.Omega.{arith}
+use lib.ListN.{set}
 use Rattle.sheet.specs.Sheet.{Sheet}
-use Rattle.derivations.specs.Minima.{only}
 use Rattle.trees.specs.ValidTrees.{token}
-use Rattle.trees.specs.Instance.{onsetsIn, earlyCount}
+use Rattle.trees.specs.Instance.{onsetsIn, ownDistance}
 use Rattle.trees.specs.Onsets.{onsets-most, early-late, own-distance-most}
 use Rattle.trees.specs.LeastTotal.{NONE}
 use Rattle.expansions.specs.declared.Interval.{Interval}
 use Rattle.expansions.specs.declared.Placed.{Placed}
 use Rattle.expansions.specs.Items.{PlacedAt, itemOf}
-use Rattle.plan.specs.Plan.{leastLeaf, leafCell}
-use Rattle.plan.specs.PlanLaws.{least-leaf-most}
-use Rattle.rows.specs.Vectors.{vec, lowered}
-use Rattle.rows.specs.VectorLaws.{vec-same, lowered-vec}
-use Rattle.rows.specs.Rows.{leafTotal, LeafEntry}
-
-token-most : (n : ℕ) → token n < 4
-token-most zero = omega arith
-token-most (suc zero) = omega arith
-token-most (suc (suc zero)) = omega arith
-token-most (suc (suc (suc n))) = omega arith
+use Rattle.plan.specs.Plan.{leafCell}
+use Rattle.plan.specs.PlanLaws.{token-below, leaf-cell-most}
+use Rattle.plan.specs.Packed.{packedLeaf}
+use Rattle.rows.specs.Vectors.{vec}
+use Rattle.rows.specs.CellLaws.{kindOf}
+use Rattle.rows.specs.PackedLaws.{packedLeafTotal}
+use Rattle.rows.specs.PackedTurnLaws.{packed-leaf-row, packed-leaf-far}
+use Rattle.rows.specs.Rows.{LeafEntry}
 
 module _ {s : Sheet} {plan units : List ℕ} {q : ℕ} {over : Interval} {from c : ℕ} {p : Placed}
     (h : LeafEntry s plan units q over from c) (placed : PlacedAt s over p) where
@@ -48,21 +45,23 @@ module _ {s : Sheet} {plan units : List ℕ} {q : ℕ} {over : Interval} {from c
 
   module _ {kind : ℕ} (ek : kind ≡ token (c + p .early)) where
     pub kind-asked : (q < 16) × (kind < 4)
-    kind-asked = (omega (arith, h .nonterminal, h .prepared .good .sixteen), omega (arith, ek, token-most (c + p .early)))
+    kind-asked = (omega (arith, h .nonterminal, h .prepared .good .sixteen), omega (arith, ek, token-below (c + p .early)))
 
     module _ {w : ℕ} (ew : w ≡ leafCell plan q kind) where
-      cost-is : w ≡ leastLeaf s q (token (c + earlyCount s left len))
+      cost-is : w ≡ packedLeaf s q (kindOf s (itemOf q over) c)
       cost-is =
           ew ∙ h .prepared .leaves q kind (kind-asked .0) (kind-asked .1)
-          ∙ ap (leastLeaf s q) (ek ∙ ap (λ (e : ℕ). token (c + e)) (placed .early))
+          ∙ ap (packedLeaf s q) (ek ∙ ap (λ (e : ℕ). token (c + e)) (placed .early))
 
-      pub cost-most : w ≤ NONE
-      cost-most = omega (arith, cost-is, least-leaf-most s q (token (c + earlyCount s left len)))
+      pub cost-most : w ≤ 64 * NONE
+      cost-most = omega (arith, ew, leaf-cell-most s plan (h .prepared) q kind (kind-asked .0) (kind-asked .1))
 
-      pub leaf-row-is : {x : ℕ} {y r : List ℕ} → x ≡ min NONE (w + p .distance) → y ≡ vec (only NONE (p .late))
-          → r ≡ lowered (vec (λ _. NONE)) x y → r ≡ vec (leafTotal s (itemOf q over) c)
-      unfolding leafTotal
-      leaf-row-is {x} ex ey er =
-          lowered-vec (λ _. NONE) (only NONE (p .late)) x refl ey er
-          ∙ vec-same (λ m. min NONE (x + only NONE (p .late) m)) (leafTotal s (itemOf q over) c)
-          (λ m k. omega (arith, ex, cost-is, placed .distance, ap (λ (i : ℕ). only NONE i m) (placed .late)))
+      module _ {x : ℕ} (ex : x ≡ min (64 * NONE) (w + 64 * p .distance)) where
+        same-cell : x ≡ min (64 * NONE) (packedLeaf s q (kindOf s (itemOf q over) c) + 64 * ownDistance s left len)
+        same-cell = omega (arith, ex, cost-is, placed .distance)
+
+        pub leaf-row-is : p .late < 4 → set (vec (λ _. 64 * NONE)) (p .late) x ≡ vec (packedLeafTotal s (itemOf q over) c)
+        leaf-row-is k = packed-leaf-row s (itemOf q over) c same-cell (p .late) (placed .late) k
+
+      pub leaf-row-none : 4 ≤ p .late → vec (λ _. 64 * NONE) ≡ vec (packedLeafTotal s (itemOf q over) c)
+      leaf-row-none k = packed-leaf-far s (itemOf q over) c (omega (arith, placed .late))

@@ -24,12 +24,12 @@ use Rattle.trees.specs.Expansions.{DivisionStep, step-of, division-expands}
 use Rattle.trees.specs.Laws.{falls}
 use Rattle.trees.specs.Room.{good-division}
 use Rattle.sizes.specs.Sizes.{largest}
-use Rattle.plan.specs.Plan.{ruleCount, leafCost, leastLeaf, savedAt, savedBy}
+use Rattle.plan.specs.Leaves.{ruleCount, leafCost, leastLeaf}
+use Rattle.plan.specs.Plan.{savedAt, savedBy}
 use Rattle.plan.specs.PlanLaws.{least-leaf-most, token-below}
 use Rattle.rows.specs.VectorLaws.{lowest-none}
 use Rattle.rows.specs.OnsetLaws.{largest-le}
-use Rattle.rows.specs.Rows.{leafTotal}
-use Rattle.rows.specs.CellLaws.{token-small, leaf-no-division, totalBy, divisionBy, divisionTotal}
+use Rattle.rows.specs.CellLaws.{leafTotal, token-small, leaf-no-division, totalBy, divisionBy, divisionTotal}
 use Rattle.rows.specs.CellLaws.{cell-none, cell-split, total-none, total-some}
 
 -- ---- what a carry saves

@@ -1,30 +1,43 @@
 -- What one turn of the loops does: one carry state more of a part, one rule more of an item. A turn that lowers nothing is idle.
-use Prim.Native.Nat.{ℕ, zero, suc, _+_, _-_, _*_, _≤_, _<_, min}
-use mathlib.Core.Path.{_≡_, refl, sym, ap, subst, _∙_}
+use Prim.Native.Nat.{ℕ, _+_, _-_, _*_, _≤_, _<_, min}
+use mathlib.Core.Path.{_≡_, refl, sym, ap, _∙_}
 use mathlib.Core.List.{List, [], _∷_}
 use native.Mathlib.Numerals.{add-one}
 use native.Mathlib.Omega.{arith}
-use lib.ListN.{length, getD}
+use lib.ListN.{getD}
 use Rattle.sheet.specs.declared.clock.Units.{Units}
 use Rattle.sheet.specs.Sheet.{Sheet}
 use Rattle.sheet.specs.Good.{GoodRules}
 use Rattle.derivations.specs.Derivation.{Item}
 use Rattle.derivations.specs.Minima.{lowest, only}
-use Rattle.derivations.specs.Table.{forward}
 use Rattle.trees.specs.ValidTrees.{weightAt}
 use Rattle.trees.specs.Instance.{onsetsIn}
-use Rattle.trees.specs.LeastTotal.{NONE, carries, cellOf}
-use Rattle.trees.specs.Expansions.{may-divide}
-use Rattle.trees.specs.Room.{good-division}
-use Rattle.plan.specs.Plan.{ruleCount, lengthAt, leastLeaf, Divides, NoDivision}
+use Rattle.trees.specs.LeastTotal.{NONE, cellOf}
+use Rattle.plan.specs.Plan.{ruleCount, leastLeaf, Divides, NoDivision}
 use Rattle.plan.specs.PlanLaws.{least-leaf-most}
-use Rattle.rows.specs.Vectors.{vec, Low, lowered}
-use Rattle.rows.specs.VectorLaws.{four, vec-same, vec-at, low-eq, lowered-vec, lowest-same, lowest-none}
-use Rattle.rows.specs.Rows.{itemAt, Inhabited, Sound, Row, Taken, partsAt, Parted, leafTotal}
-use Rattle.rows.specs.CellLaws.{leaf-total-most, divisionTotal, cell-none, cell-split, division-never, division-total, cell-empty}
+use Rattle.rows.specs.Vectors.{vec, Low, lowered, LowCells, totalsOf, loweredBy}
+use Rattle.rows.specs.VectorLaws.{four, vec-same, vec-at, low-eq, low-cells, totals-vec, lowered-vec, lowest-same, lowest-none}
+use Rattle.rows.specs.CellLaws.{cell-none, cell-empty}
+use Rattle.rows.specs.PackedLaws.{packedCell, packedLeafTotal, packed-cell-most, packed-cell-is}
+use Rattle.rows.specs.Slots.{itemAt, Inhabited, Sound}
+use Rattle.rows.specs.Rows.{Row, Taken, Parted}
+use Rattle.rows.specs.PackedTurnLaws.{packedTo, packed-to-most, packed-none, packed-all, packed-idle, packed-idles, packed-lowered}
 
-pub row-low : {s : Sheet} {rows : List ℕ} {g : Item} {c : ℕ} {r : List ℕ} → Row s rows g c r → Low r
-row-low {s} {g = g} {c} {r} p = low-eq r (cellOf s g c) (p .is) (cell-none s g c)
+-- ---- a row
+
+pub row-cells-low : {s : Sheet} {rows : List ℕ} {g : Item} {c : ℕ} {r : List ℕ} → Row s rows g c r → LowCells r
+row-cells-low {s} {g = g} {c} {r} p = low-cells r (packedCell s g c) (p .is) (packed-cell-most s g c)
+
+-- its totals are the cells
+module _ {s : Sheet} {rows : List ℕ} {g : Item} {c : ℕ} {r y : List ℕ} (good : GoodRules (s .grammar)) (few : c < 4)
+    (p : Row s rows g c r) (e : y ≡ totalsOf r) where
+  pub row-totals : y ≡ vec (cellOf s g c)
+  row-totals =
+      e ∙ totals-vec (packedCell s g c) (p .is)
+      ∙ vec-same _ (cellOf s g c) (λ x h. packed-cell-is s good g c x few h)
+
+  pub row-low : Low y
+  row-low = low-eq y (cellOf s g c) row-totals (cell-none s g c)
 
 -- ---- carry states
 
@@ -37,9 +50,13 @@ module _ {s : Sheet} {rows : List ℕ} {g : Item} {v : List ℕ} {m : ℕ} {o : 
   upTo n x = lowest NONE (λ c. getD v c 0 + cellOf s g c x) n
 
   -- from a carry state that is reached
-  pub taken-more : {after y o′ : List ℕ} → Row s after g m y → o′ ≡ lowered o (getD v m 0) y → Taken s after g v (m + 1) o′
+  pub taken-more : {after y t o′ : List ℕ} → GoodRules (s .grammar) → m < 4 → Row s after g m y → t ≡ totalsOf y
+      → o′ ≡ lowered o (getD v m 0) t → Taken s after g v (m + 1) o′
   unfolding lowest
-  taken-more row e = record { is = rw add-one (lowered-vec (upTo m) (cellOf s g m) (getD v m 0) (p .is) (row .is) e); sound = row .sound }
+  taken-more good few row et e = record {
+    is = rw add-one (lowered-vec (upTo m) (cellOf s g m) (getD v m 0) (p .is) (row-totals good few row et) e);
+    sound = row .sound;
+  }
 
 -- a part without an onset: the least leaf of each kind, and nothing is carried on
 pub taken-empty : {s : Sheet} {rows : List ℕ} (g : Item) (v leaves : List ℕ) (x : ℕ) → GoodRules (s .grammar)
@@ -71,22 +88,18 @@ taken-empty {s} {rows} g v leaves x good none sound e k =
 
 -- ---- rules
 
--- the lesser of what a leaf at the item totals and of what those of the first n rules total that are divisions
-abbrev pub ruledTo : Sheet → Item → (c n x : ℕ) → ℕ
-ruledTo s g c n x = min (leafTotal s g c x) (lowest NONE (divisionTotal s g c x) n)
-
+-- the first n rules are done: the lesser of what is packed of a leaf at the item and of those of them that are divisions
 pub record Ruled (s : Sheet) (rows : List ℕ) (g : Item) (c n : ℕ) (o : List ℕ) : Type 0 where
-  pub is : o ≡ vec (ruledTo s g c n)
+  pub is : o ≡ vec (packedTo s g c n)
   pub sound : Sound s rows
 
-pub ruled-low : {s : Sheet} {rows : List ℕ} {g : Item} {c n : ℕ} {o : List ℕ} → Ruled s rows g c n o → Low o
-ruled-low {s} {g = g} {c} {n} {o} p = low-eq o (ruledTo s g c n) (p .is) (λ x. omega (arith, leaf-total-most s g c x))
+pub ruled-low : {s : Sheet} {rows : List ℕ} {g : Item} {c n : ℕ} {o : List ℕ} → Ruled s rows g c n o → LowCells o
+ruled-low {s} {g = g} {c} {n} {o} p = low-cells o (packedTo s g c n) (p .is) (packed-to-most s g c n)
 
-pub ruled-none : {s : Sheet} {rows : List ℕ} (g : Item) (c : ℕ) {o : List ℕ} → o ≡ vec (leafTotal s g c) → Sound s rows
+pub ruled-none : {s : Sheet} {rows : List ℕ} (g : Item) (c : ℕ) {o : List ℕ} → o ≡ vec (packedLeafTotal s g c) → Sound s rows
     → Ruled s rows g c 0 o
-unfolding lowest
 ruled-none {s} g c e sound = record {
-  is = e ∙ vec-same (leafTotal s g c) (ruledTo s g c 0) (λ x h. omega (arith, leaf-total-most s g c x));
+  is = e ∙ vec-same (packedLeafTotal s g c) (packedTo s g c 0) (λ x _. sym (packed-none s g c x));
   sound = sound;
 }
 
@@ -94,7 +107,7 @@ ruled-none {s} g c e sound = record {
 pub ruled-all : {s : Sheet} {rows : List ℕ} {g : Item} {c n : ℕ} {o : List ℕ} → GoodRules (s .grammar) → c < 4 → n ≡ ruleCount s
     → Ruled s rows g c n o → Row s rows g c o
 ruled-all {s} {g = g} {c} {n} good h e p = record {
-  is = p .is ∙ vec-same (ruledTo s g c n) (cellOf s g c) (λ x k. ap (λ (i : ℕ). ruledTo s g c i x) e ∙ sym (cell-split s good g c x h k));
+  is = p .is ∙ vec-same (packedTo s g c n) (packedCell s g c) (λ x k. packed-all s g c good h n x e k);
   sound = p .sound;
 }
 
@@ -104,56 +117,28 @@ module _ (s : Sheet) (q l : ℕ) (left : Units) {rows : List ℕ} {c n : ℕ} {o
 
   -- a rule that does not divide the item
   pub ruled-idle : NoDivision s q l n → Ruled s rows g c (n + 1) o
-  unfolding lowest
   ruled-idle no-division = record {
-    is = rw add-one
-        (p .is ∙ vec-same (ruledTo s g c n) (ruledTo s g c (suc n)) (λ x k. omega (arith, never x, leaf-total-most s g c x)));
+    is = p .is ∙ vec-same (packedTo s g c n) (packedTo s g c (n + 1)) (λ x _. sym (packed-idle s q l left c n x no-division));
     sound = p .sound;
   }
-    where
-      never : (x : ℕ) → divisionTotal s g c x n ≡ NONE
-      never x = division-never s g c x n (λ w ks rule may. no-division w ks rule (may-divide s (length ks) (g .left) (g .len) may .0))
 
   -- one that does
   pub ruled-more : {after y o′ : List ℕ} {k h a : ℕ} → GoodRules (s .grammar) → Divides s q l n k h → Inhabited s l left
-      → a ≡ s .grammar .multiplier * weightAt s n → Parted s after n h left c y → o′ ≡ lowered o a y → Ruled s after g c (n + 1) o′
-  unfolding lowest
-  ruled-more {h = h} {a} good d on ea parted e = record {
-    is = rw add-one
-        (lowered-vec (ruledTo s g c n) total a (p .is) (parted .is q (d .weight) (d .parts) (d .rule)) e
-        ∙ vec-same (λ x. min (ruledTo s g c n x) (a + total x)) (ruledTo s g c (suc n)) same);
+      → a ≡ s .grammar .multiplier * weightAt s n → Parted s after n 0 h left c y → o′ ≡ loweredBy o a n y → Ruled s after g c (n + 1) o′
+  ruled-more good d on ea parted e = record {
+    is = packed-lowered s q l left c good d on ea (p .is) (parted .is q (d .weight) (d .parts) (d .rule)) e;
     sound = parted .sound;
   }
+
+  -- the first m rules, where those from n on do not divide the item
+  pub ruled-past : (m : ℕ) → n ≤ m → ((i : ℕ) → n ≤ i → i < m → NoDivision s q l i) → Ruled s rows g c m o
+  ruled-past m h idle = record {
+    is = p .is ∙ vec-same (packedTo s g c n) (packedTo s g c m) (λ x _. sym (ap (λ (i : ℕ). packedTo s g c i x) whole ∙ through x));
+    sound = p .sound;
+  }
     where
-      total : ℕ → ℕ
-      total = forward carries NONE (cellOf s) (partsAt s h left (d .parts)) (only NONE c)
+      whole : m ≡ n + (m - n)
+      whole = omega arith
 
-      whole : lengthAt s l ≡ length (d .parts) * lengthAt s h
-      whole = d .whole ∙ ap (λ (k : ℕ). k * lengthAt s h) (sym (d .count))
-
-      some-parts : 0 < length (d .parts)
-      some-parts = omega (arith, good-division s good n q (d .weight) (d .parts) (d .rule) .two)
-
-      is-total : (x : ℕ) → divisionTotal s g c x n ≡ a + total x
-      is-total x =
-          division-total s g c x n (d .weight) (lengthAt s h) (d .parts) (d .rule) some-parts whole on ∙ ap (_+ total x) (sym ea)
-
-      same : (x : ℕ) → x < 4 → min (ruledTo s g c n x) (a + total x) ≡ ruledTo s g c (suc n) x
-      same x k = omega (arith, is-total x)
-
--- k rules on end that do not divide the item
-pub ruled-through : (s : Sheet) (q l : ℕ) (left : Units) {rows : List ℕ} {c : ℕ} {o : List ℕ} (n k : ℕ)
-    → Ruled s rows (itemAt s q l left) c n o → ((i : ℕ) → n ≤ i → i < n + k → NoDivision s q l i)
-    → Ruled s rows (itemAt s q l left) c (n + k) o
-ruled-through s q l left {rows} {c} {o} n zero p idle = subst (λ (m : ℕ). Ruled s rows (itemAt s q l left) c m o) (omega arith) p
-ruled-through s q l left {rows} {c} {o} n (suc k) p idle =
-    subst (λ (m : ℕ). Ruled s rows (itemAt s q l left) c m o) (omega arith)
-    (ruled-idle s q l left (ruled-through s q l left n k p (λ i least less. idle i least (omega arith)))
-    (idle (n + k) (omega arith) (omega arith)))
-
--- the first m rules where those from n on do not divide the item
-pub ruled-past : (s : Sheet) (q l : ℕ) (left : Units) {rows : List ℕ} {c : ℕ} {o : List ℕ} (n m : ℕ) → n ≤ m
-    → Ruled s rows (itemAt s q l left) c n o → ((i : ℕ) → n ≤ i → i < m → NoDivision s q l i) → Ruled s rows (itemAt s q l left) c m o
-ruled-past s q l left {rows} {c} {o} n m h p idle =
-    subst (λ (j : ℕ). Ruled s rows (itemAt s q l left) c j o) (omega arith)
-    (ruled-through s q l left n (m - n) p (λ i least less. idle i least (omega arith)))
+      through : (x : ℕ) → packedTo s g c (n + (m - n)) x ≡ packedTo s g c n x
+      through x = packed-idles s q l left c n (m - n) x (λ i least less. idle i least (omega arith))

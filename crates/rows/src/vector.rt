@@ -1,12 +1,16 @@
-// Vectors of four numbers, by carry state. NONE stands for "no tree": it is above every total, and two of them fit.
+// Vectors of four numbers, by carry state: totals, or packed cells, which are 64 × a total + the first rule that comes to it. NONE stands
+// for "no tree": it is above every total, and two of them fit, packed too.
 ghost use mathlib.Core.Path.{_≡_};
-ghost use Prim.Native.Nat.{_+_, _≤_, min};
+ghost use Prim.Native.Nat.{_+_, _≤_, _<_, min};
 ghost use lib.ListN.{getD};
 ghost use Rattle.derivations.specs.Minima.{lowest, only};
 ghost use Rattle.trees.specs.LeastTotal.{NONE};
-ghost use Rattle.rows.specs.Vectors.{vec, Low, lowered};
+ghost use Rattle.rows.specs.Vectors.{vec, Low, lowered, totalsOf, loweredBy};
 
-pub const NONE: u64 = 72057594037927936;
+pub const NONE: u64 = 1125899906842624;
+
+// The packed cell of "no tree": 64 × NONE.
+pub const NO_CELL: u64 = 72057594037927936;
 
 // The smaller of two numbers.
 pub fn least(a: u64, b: u64) -> u64
@@ -37,6 +41,26 @@ pub fn relax(o: [u64; 4], a: u64, y: [u64; 4]) -> [u64; 4]
         least(o[2], a + y[2]),
         least(o[3], a + y[3]),
     ]
+}
+
+// The packed row o, lowered where 64 times a more than y, and r, is less.
+pub fn relax_rule(o: [u64; 4], a: u64, r: u64, y: [u64; 4]) -> [u64; 4]
+    requires { ⌜ (a ≤ NONE) × (r < 64) × Low y ⌝ }
+    ensures { λ x. ⌜ x ≡ loweredBy o a r y ⌝ }
+{
+    [
+        least(o[0], 64 * (a + y[0]) + r),
+        least(o[1], 64 * (a + y[1]) + r),
+        least(o[2], 64 * (a + y[2]) + r),
+        least(o[3], 64 * (a + y[3]) + r),
+    ]
+}
+
+// The totals of a packed row.
+pub fn totals(y: [u64; 4]) -> [u64; 4]
+    ensures { λ r. ⌜ r ≡ totalsOf y ⌝ }
+{
+    [y[0] / 64, y[1] / 64, y[2] / 64, y[3] / 64]
 }
 
 // The least of the sums of two vectors, or NONE.

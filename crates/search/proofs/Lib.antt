@@ -1,3 +1,5 @@
+mod EnterSteps
+mod PassSteps
+mod BackSteps
 mod BarSteps
-mod VectorSteps
 mod SearchSteps

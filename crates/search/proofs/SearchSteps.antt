@@ -1,72 +1,109 @@
--- The steps of `parse` and `least_tree`: the table cleared, what the first vector tells, and the cells of the work slice.
-use Prim.Native.Nat.{ℕ, _+_, _-_, _*_, _≤_, _<_}
+-- The steps of `parse` and `least_tree`: the table cleared, what the least total tells, and the cells of the work slice.
+use Prim.Native.Nat.{ℕ, _+_, _-_, _*_, _/_, _≤_, _<_}
 use mathlib.Core.Path.{_≡_, refl, ap, subst, _∙_}
-use mathlib.Core.List.{List, _++_}
+use mathlib.Core.List.{List, [], _∷_, _++_}
 use native.Mathlib.Nat.{mul-le-mul}
 use native.Mathlib.Omega.{arith}
-use lib.ListN.{length, take, drop, getD, replicate, length-append, length-drop}
+use borrow.Author.Tests.{eq-eqb}
+use lib.ListN.{length, take, drop, replicate, length-append, length-drop}
 use lib.Seq.{drop-append-add, drop-drop, length-take-le}
+use Rattle.slices.specs.Every.{Every}
 use Rattle.slices.specs.Over.{over}
 use Rattle.slices.specs.Table.{Table, table-over}
 use Rattle.sheet.specs.declared.table.GrammarTable.{GrammarTable}
 use Rattle.sheet.specs.declared.table.PlayingTable.{PlayingTable}
-use Rattle.sheet.specs.Sheet.{Grammar, Sheet}
-use Rattle.sheet.specs.Good.{GoodRules}
+use Rattle.sheet.specs.Sheet.{Onset, Grammar, Playing, Sheet, barUnits, inBar}
+use Rattle.sheet.specs.Good.{GoodRules, GoodOnsets}
 use Rattle.sheet.specs.Held.{grammarTable, playingTable}
-use Rattle.trees.specs.ValidTrees.{bars}
 use Rattle.trees.specs.LeastTotal.{NONE, leastTotal}
-use Rattle.sizes.specs.Sizes.{mostInBar, workCells}
-use Rattle.sizes.specs.SizesLaws.{length-count-most, most-in-bar-most}
+use Rattle.sizes.specs.Sizes.{largest, mostInBar, workCells}
+use Rattle.sizes.specs.SizesLaws.{length-count-least, length-count-most, most-in-bar-most}
 use Rattle.expansions.specs.Tables.{unitCells}
 use Rattle.plan.specs.Plan.{lengths, Prepared, nonterminalsCell, lengthsCell}
-use Rattle.rows.specs.Memo.{rowAt}
 use Rattle.rows.specs.MemoLaws.{memo-clear}
-use Rattle.rows.specs.Rows.{slots, slotCell}
+use Rattle.rows.specs.Slots.{slots, slotCell, Sound}
+use Rattle.rows.specs.OnsetLaws.{largest-le}
 use Rattle.search.specs.declared.Found.{Found}
 use Rattle.search.specs.declared.Found.the-variants.{NoTree}
-use Rattle.search.specs.Search.{behindBars, BarsEntry, VectorsFrom, BarsBuildEntry, ParseEntry, FoundAs, SearchEntry, Searched}
+use Rattle.search.specs.Search.{BarsEntry, Forward, BackEntry, VectorsFrom, BarsBuildEntry, ParseEntry, FoundAs, SearchEntry}
+use Rattle.search.specs.Search.{Searched}
+use Rattle.search.proofs.EnterSteps.{product-few}
 
 module _ {s : Sheet} {plan us rows tree : List ℕ} {start count : ℕ} (h : ParseEntry s plan us rows tree start count) where
   pub bars-few : count ≤ 64
   bars-few = omega (arith, h .count-is, h .onsets .good .sixty-four)
 
-  -- a table of zeros claims nothing
-  pub cleared-entry : (now : List ℕ) (n : ℕ) → n ≡ length rows → Table (λ _. 0) rows now n → BarsEntry s plan us now start count
-  cleared-entry now n en t =
+  entered : {now : List ℕ} → Sound s now → BarsEntry s plan us now start count
+  entered sound =
       record {
         prepared = h .prepared;
         onsets = h .onsets;
         start-is = h .start-is;
         count-is = h .count-is;
-        sound = memo-clear (slotCell s) now (slots s) (t .size ∙ h .rows-size) (λ i hi. t .each i (omega (arith, h .rows-size)));
+        some-slot = h .some-slot;
+        sound = sound;
       }
 
-  module _ (now vectors : List ℕ) (are : VectorsFrom s now vectors 0) (x : List ℕ) (ex : x ≡ rowAt vectors 0) (goal : ℕ)
-      (eg : goal ≡ getD x 0 0) where
-    pub goal-is : goal ≡ behindBars s 0 0
-    goal-is = eg ∙ ap (λ (y : List ℕ). getD y 0 0) (ex ∙ are .each 0 (omega arith) (omega arith))
+  -- a table of zeros claims nothing
+  pub cleared-entry : {now : List ℕ} {n : ℕ} → n ≡ length rows → Table (λ _. 0) rows now n → BarsEntry s plan us now start count
+  cleared-entry {now} en t =
+      entered (memo-clear (slotCell s) now (slots s) (t .size ∙ h .rows-size) (λ i hi. t .each i (omega (arith, h .rows-size))))
 
+  module _ {now roots : List ℕ} {total : ℕ} (told : Forward s now roots total) where
     -- no total is below the cap
-    pub none-found : NONE ≤ goal → FoundAs s tree tree NoTree
-    unfolding leastTotal bars
-    none-found k = (omega (arith, goal-is), refl)
+    pub none-found : NONE ≤ total → FoundAs s tree tree NoTree
+    none-found k = (omega (arith, told .is), refl)
 
-    pub build-bars-entry : goal < NONE → BarsBuildEntry s plan us now tree vectors start count goal
-    build-bars-entry k =
-        record {
-          entry = record {
-            prepared = h .prepared;
-            onsets = h .onsets;
-            start-is = h .start-is;
-            count-is = h .count-is;
-            sound = are .sound;
-          };
-          vectors-are = are;
-          due = record { is = goal-is; reached = k };
-          room = h .tree-size;
-        }
+    -- one is
+    module _ (k : total < NONE) where
+      reached : leastTotal s < NONE
+      reached = omega (arith, told .is)
+
+      pub back-entry : {vectors : List ℕ} → 4 * (count + 1) ≤ length vectors → BackEntry s roots vectors count
+      back-entry room = record {
+        good = h .prepared .good;
+        count-is = h .count-is;
+        few = bars-few;
+        roots-are = told .roots-are;
+        room = room;
+        reached = reached;
+      }
+
+      pub build-bars-entry : {vectors : List ℕ} → VectorsFrom s vectors 0 → BarsBuildEntry s plan us now tree vectors roots start count
+      build-bars-entry are = record {
+        entry = entered (told .sound);
+        vectors-are = are;
+        roots-are = told .roots-are;
+        reached = reached;
+        room = h .tree-size;
+      }
 
 -- ---- a sheet
+
+-- an onset is in its own bar
+in-own-bar : (o : Onset) (os : List Onset) → 1 ≤ inBar (o .unit / barUnits) (o ∷ os)
+unfolding inBar
+in-own-bar o os = rw (eq-eqb (o .unit / barUnits) (o .unit / barUnits) refl) (omega arith)
+
+-- so a playing with an onset has one in some bar
+one-in-bar : (p : Playing) → GoodOnsets p → 1 ≤ length (p .onsets) → 1 ≤ mostInBar p
+unfolding mostInBar
+one-in-bar p good some = go (p .onsets) (good .below) some
+  where
+    go : (os : List Onset) → Every (λ (o : Onset). o .unit < p .bars * barUnits) os → 1 ≤ length os
+        → 1 ≤ largest (λ (b : ℕ). inBar b os) (p .bars)
+    go [] e k = let none : ⊥ = omega arith in absurd none
+    go (o ∷ os) e k =
+        let b = o .unit / barUnits in
+        omega (arith, largest-le (λ (i : ℕ). inBar i (o ∷ os)) (p .bars) b (omega (arith, e .0)), in-own-bar o os)
+
+-- and its table a slot
+some-slots : (s : Sheet) → GoodRules (s .grammar) → GoodOnsets (s .playing) → 1 ≤ length (s .playing .onsets) → 0 < slots s
+some-slots s rules onsets some =
+    let first : 1 * 1 ≤ s .grammar .nonterminals * lengths s = mul-le-mul (rules .one) (length-count-least (s .grammar .rules)) in
+    let all : 1 * 1 * 1 ≤ s .grammar .nonterminals * lengths s * mostInBar (s .playing)
+    = mul-le-mul first (one-in-bar (s .playing) onsets some) in
+    omega (arith, all)
 
 pub record Counted (s : Sheet) (q l e : ℕ) : Type 0 where
   pub nonterminals : q ≡ s .grammar .nonterminals
@@ -90,11 +127,9 @@ module _ {s : Sheet} {grammar : GrammarTable} {playing : PlayingTable} {tree wor
   module _ (q l e : ℕ) (counts : Counted s q l e) where
     pub product-small : (q * l ≤ 1344) × (q * l * e ≤ 43008)
     product-small =
-        let q-most : q ≤ 16 = omega (arith, counts .nonterminals, h .held .good .rules .sixteen) in
-        let l-most : l ≤ 84 = omega (arith, counts .lengths-are, length-count-most (s .grammar .rules)) in
-        let e-most : e ≤ 32 = omega (arith, counts .most, most-in-bar-most (s .playing) (h .held .good .onsets)) in
-        let first : q * l ≤ 1344 = mul-le-mul q-most l-most in
-        (first, mul-le-mul first e-most)
+        product-few (omega (arith, counts .nonterminals, h .held .good .rules .sixteen))
+        (omega (arith, counts .lengths-are, length-count-most (s .grammar .rules)))
+        (omega (arith, counts .most, most-in-bar-most (s .playing) (h .held .good .onsets)))
 
     product-is : q * l * e ≡ s .grammar .nonterminals * lengths s * mostInBar (s .playing)
     product-is = rw (counts .nonterminals, counts .lengths-are, counts .most) refl
@@ -127,6 +162,7 @@ module _ {s : Sheet} {grammar : GrammarTable} {playing : PlayingTable} {tree wor
         onsets = record { good = h .held .good .onsets; cells = eu };
         start-is = es ∙ start-is;
         count-is = eb ∙ bars-are;
+        some-slot = some-slots s (h .held .good .rules) (h .held .good .onsets) (h .held .good .some-onset);
         rows-size = length-take-le cells work fit ∙ ec;
         tree-size = h .tree-size;
       }

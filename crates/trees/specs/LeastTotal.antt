@@ -8,9 +8,9 @@ use Rattle.derivations.specs.Cells.{cell, cellTo}
 use Rattle.trees.specs.ValidTrees.{bars}
 use Rattle.trees.specs.Instance.{instanceOf}
 
--- what stands for "no tree": above every total, with room to add two of them in 64 bits
+-- what stands for "no tree": above every total, with room for 64 times two of them, and a stamp, in 64 bits
 abbrev pub NONE : ℕ
-NONE = 2 ^ 56
+NONE = 2 ^ 50
 
 -- carry states 0 to 3: how many onsets are carried
 abbrev pub carries : ℕ

@@ -1,161 +1,177 @@
--- `build_bars` meets its contract. The invariant of the loop: the first b bars are built (`InBars`), and `lo` is the left bound of the
--- next. Assumes nothing.
+-- `build_bars` meets its contract. The invariant of the loop: the first b bars are built, and some least tree passes the carry state behind
+-- them (`InBars`). Assumes nothing.
 use borrow.Author.Needs.{needs}
-use Prim.Native.Nat.{_-_, _*_, _≤_}
+use Prim.Native.Nat.{_-_, _≤_}
 use mathlib.Core.Path.{_≡_, sym, ap, _∙_}
 use native.Mathlib.Omega.{arith}
 use lib.ListN.{length}
 use Rattle.slices.specs.Over.{length-over-from}
 use Rattle.sheet.specs.Sheet.{Sheet}
-use Rattle.expansions.specs.Places.{first-zero}
 use Rattle.search.specs.Search.{BarsBuildEntry}
-use Rattle.building.proofs.BuildSteps.{built-small}
-use Rattle.search.proofs.BarSteps.{few-bars, bar-near, InBars, in-bars-none, bar-build, in-bars-more, in-bars-all}
+use Rattle.search.proofs.EnterSteps.{few-bars, bar-enter}
+use Rattle.search.proofs.BarSteps.{InBars, in-bars-none, bar-carry, root-room, vector-room, bar-build, in-bars-more, in-bars-all}
 use Rattle.search.proofs.build_bars.Statement.{statement}
 use Rattle.search.proofs.build_bars.Tie as tie
 
 abbrev Inv-loop : tie.InvT-loop
-Inv-loop plan units rows₀ tree₀ vectors start count goal from₀ next₀ carry₀ due₀ lo₀ b₀ rows tree from next carry due lo b =
-    (lo ≡ b * 20160) × (b ≤ count) × ((s : Sheet) → BarsBuildEntry s plan units rows₀ tree₀ vectors start count goal
-    → InBars s rows tree₀ tree b lo from carry due next)
+Inv-loop plan units rows₀ tree₀ vectors roots start count slots next₀ carry₀ b₀ rows tree next carry b =
+    (b ≤ count) × ((s : Sheet) → BarsBuildEntry s plan units rows₀ tree₀ vectors roots start count
+    → InBars s rows tree₀ tree b carry next)
 
 abbrev μ-loop : tie.MeasureT-loop
-μ-loop plan units rows₀ tree₀ vectors start count goal from₀ next₀ carry₀ due₀ lo₀ b₀ rows tree from next carry due lo b =
-    count - b
+μ-loop plan units rows₀ tree₀ vectors roots start count slots next₀ carry₀ b₀ rows tree next carry b = count - b
 
 loop-holds : tie.Need-loop-holds Inv-loop μ-loop
-loop-holds c = (omega arith, omega arith, λ s h. in-bars-none h (sym (first-zero s (h .entry .onsets .good))))
+loop-holds c = (omega arith, λ s h. in-bars-none h)
 
-add-b : tie.Need-add-b Inv-loop μ-loop
-add-b c =
-    let start = c .before .before .before .before .before in
+enter-requires : tie.Need-enter-requires Inv-loop μ-loop
+enter-requires c κs =
+    let start = c .before .before .before .before .before .before in
+    let loop = c .before .loop in
     let loop-test = c .loop-test in
+    let s = start .pre .0 in
     let h = start .pre .1 in
-    record { fits = omega (arith, few-bars (h .entry), loop-test .taken) }
+    (s, bar-enter (h .entry) (loop .b) (loop-test .taken))
 
 mul-load : tie.Need-mul-load Inv-loop μ-loop
 mul-load c =
-    let start = c .before .before .before .before .before in
-    let loop-test = c .loop-test in
+    let start = c .before .before .before .before .before .before .before in
+    let loop-test = c .before .loop-test in
     let h = start .pre .1 in
     record { fits = omega (arith, few-bars (h .entry), loop-test .taken) }
 
+mul-load-2 : tie.Need-mul-load-2 Inv-loop μ-loop
+mul-load-2 c =
+    let start = c .before .before .before .before .before .before .before in
+    let loop = c .before .before .loop in
+    let loop-test = c .before .loop-test in
+    let s = start .pre .0 in
+    let h = start .pre .1 in
+    let below = loop-test .taken in
+    let so-far = loop .inv .1 s h in
+    record { fits = omega (arith, bar-carry h so-far below) }
+
+add-load : tie.Need-add-load Inv-loop μ-loop
+add-load c =
+    let start = c .before .before .before .before .before .before .before in
+    let loop = c .before .before .loop in
+    let loop-test = c .before .loop-test in
+    let s = start .pre .0 in
+    let h = start .pre .1 in
+    let below = loop-test .taken in
+    let so-far = loop .inv .1 s h in
+    record { fits = omega (arith, few-bars (h .entry), below, bar-carry h so-far below) }
+
 load-requires : tie.Need-load-requires Inv-loop μ-loop
 load-requires c κs =
-    let start = c .before .before .before .before .before in
-    let loop-test = c .loop-test in
+    let start = c .before .before .before .before .before .before .before in
+    let loop = c .before .before .loop in
+    let loop-test = c .before .loop-test in
+    let s = start .pre .0 in
     let h = start .pre .1 in
-    omega (arith, h .vectors-are .size, h .entry .count-is, loop-test .taken)
+    let below = loop-test .taken in
+    let so-far = loop .inv .1 s h in
+    root-room h so-far below
+
+cast-lo : tie.Need-cast-lo Inv-loop μ-loop
+cast-lo c =
+    let start = c .before .before .before .before .before .before .before .before in
+    let loop-test = c .before .before .loop-test in
+    let h = start .pre .1 in
+    omega (arith, few-bars (h .entry), loop-test .taken)
+
+mul-lo : tie.Need-mul-lo Inv-loop μ-loop
+mul-lo c =
+    let start = c .before .before .before .before .before .before .before .before in
+    let loop-test = c .before .before .loop-test in
+    let h = start .pre .1 in
+    record { fits = omega (arith, few-bars (h .entry), loop-test .taken) }
+
+add-b : tie.Need-add-b Inv-loop μ-loop
+add-b c =
+    let start = c .before .before .before .before .before .before .before .before in
+    let loop-test = c .before .before .loop-test in
+    let h = start .pre .1 in
+    record { fits = omega (arith, few-bars (h .entry), loop-test .taken) }
+
+mul-load-3 : tie.Need-mul-load-3 Inv-loop μ-loop
+mul-load-3 c =
+    let start = c .before .before .before .before .before .before .before .before in
+    let loop-test = c .before .before .loop-test in
+    let h = start .pre .1 in
+    record { fits = omega (arith, few-bars (h .entry), loop-test .taken) }
+
+load-requires-2 : tie.Need-load-requires-2 Inv-loop μ-loop
+load-requires-2 c κs =
+    let start = c .before .before .before .before .before .before .before .before in
+    let loop = c .before .before .before .loop in
+    let loop-test = c .before .before .loop-test in
+    let s = start .pre .0 in
+    let h = start .pre .1 in
+    let below = loop-test .taken in
+    let so-far = loop .inv .1 s h in
+    vector-room h so-far below
 
 build-requires : tie.Need-build-requires Inv-loop μ-loop
 build-requires c κs =
-    let start = c .before .before .before .before .before .before .before .before in
-    let loop = c .before .before .before .before .loop in
-    let loop-test = c .before .before .before .loop-test in
-    let load = c .before .before .load in
+    let start = c .before .before .before .before .before .before .before .before .before .before .before in
+    let loop = c .before .before .before .before .before .before .loop in
+    let loop-test = c .before .before .before .before .before .loop-test in
+    let enter = c .before .before .before .before .enter in
+    let load = c .before .before .before .load in
+    let load2 = c .before .before .load2 in
     let s = start .pre .0 in
     let h = start .pre .1 in
-    let done = loop .inv .2 s h in
-    let entry = bar-build h _ _ (loop .b) (loop .lo) (loop .from) (loop .carry) (loop .due) (loop .next) done (loop-test .taken)
-    (loop .inv .0) _ (load .ensures) in
+    let below = loop-test .taken in
+    let so-far = loop .inv .1 s h in
+    let entry = bar-build h so-far below (load .ensures) (load2 .ensures) (enter .ensures s (bar-enter (h .entry) (loop .b) below)) in
     (s, entry)
-
-mul-due : tie.Need-mul-due Inv-loop μ-loop
-mul-due c =
-    let start = c .before .before .before .before .before .before .before .before .before .before .before .before .before in
-    let loop = c .before .before .before .before .before .before .before .before .before .loop in
-    let loop-test = c .before .before .before .before .before .before .before .before .loop-test in
-    let load = c .before .before .before .before .before .before .before .load in
-    let build = c .before .before .before .before .build in
-    let s = start .pre .0 in
-    let h = start .pre .1 in
-    let done = loop .inv .2 s h in
-    let entry = bar-build h _ _ (loop .b) (loop .lo) (loop .from) (loop .carry) (loop .due) (loop .next) done (loop-test .taken)
-    (loop .inv .0) _ (load .ensures) in
-    let built = build .ensures s entry in
-    let small = built-small entry built in
-    record { fits = omega (arith, small) }
-
-array-read-due : tie.Need-array-read-due Inv-loop μ-loop
-array-read-due c =
-    let start = c .before .before .before .before .before .before .before .before .before .before .before .before .before in
-    let loop = c .before .before .before .before .before .before .before .before .before .loop in
-    let loop-test = c .before .before .before .before .before .before .before .before .loop-test in
-    let load = c .before .before .before .before .before .before .before .load in
-    let build = c .before .before .before .before .build in
-    let s = start .pre .0 in
-    let h = start .pre .1 in
-    let done = loop .inv .2 s h in
-    let entry = bar-build h _ _ (loop .b) (loop .lo) (loop .from) (loop .carry) (loop .due) (loop .next) done (loop-test .taken)
-    (loop .inv .0) _ (load .ensures) in
-    let built = build .ensures s entry in
-    built-small entry built
-
-add-lo : tie.Need-add-lo Inv-loop μ-loop
-add-lo c =
-    let start = c .before .before .before .before .before .before .before .before .before .before .before .before .before in
-    let loop = c .before .before .before .before .before .before .before .before .before .loop in
-    let loop-test = c .before .before .before .before .before .before .before .before .loop-test in
-    let h = start .pre .1 in
-    let near = bar-near (h .entry) (loop .b) (loop .lo) (loop-test .taken) (loop .inv .0) in
-    record { fits = omega (arith, near) }
-
-first-behind-requires : tie.Need-first-behind-requires Inv-loop μ-loop
-first-behind-requires c κs =
-    let start = c .before .before .before .before .before .before .before .before .before .before .before .before .before in
-    let loop = c .before .before .before .before .before .before .before .before .before .loop in
-    let loop-test = c .before .before .before .before .before .before .before .before .loop-test in
-    let s = start .pre .0 in
-    let h = start .pre .1 in
-    let near = bar-near (h .entry) (loop .b) (loop .lo) (loop-test .taken) (loop .inv .0) in
-    let done = loop .inv .2 s h in
-    (s, loop .lo, h .entry .onsets, done .first, omega arith, near)
 
 loop-less : tie.Need-loop-less Inv-loop μ-loop
 loop-less c = search needs
 
 loop-again : tie.Need-loop-again Inv-loop μ-loop
 loop-again c =
-    let loop = c .before .before .before .before .before .before .before .before .before .before .loop in
-    let loop-test = c .before .before .before .before .before .before .before .before .before .loop-test in
+    let loop = c .before .before .before .before .before .before .before .before .before .before .before .loop in
+    let loop-test = c .before .before .before .before .before .before .before .before .before .before .loop-test in
+    let enter = c .before .before .before .before .before .before .before .before .before .enter in
     let load = c .before .before .before .before .before .before .before .before .load in
-    let build = c .before .before .before .before .before .build in
-    let first-behind = c .first-behind in (
-      omega (arith, loop .inv .0),
-      omega (arith, loop-test .taken),
+    let load2 = c .before .before .before .before .before .before .before .load2 in
+    let build = c .before .before .before .before .build in
+    let below = loop-test .taken in (
+      omega (arith, below),
       λ s h.
-          let near = bar-near (h .entry) (loop .b) (loop .lo) (loop-test .taken) (loop .inv .0) in
-          let done = loop .inv .2 s h in
-          let entry = bar-build h _ _ (loop .b) (loop .lo) (loop .from) (loop .carry) (loop .due) (loop .next) done (loop-test .taken)
-          (loop .inv .0) _ (load .ensures) in
-          let built = build .ensures s entry in
-          let from = first-behind .ensures s (loop .lo) (h .entry .onsets) (done .first) (omega arith) near in
-          in-bars-more h _ _ (loop .b) (loop .lo) (loop .from) (loop .carry) (loop .due) (loop .next) done (loop-test .taken)
-          (loop .inv .0) _
-          (load .ensures) _ _ _ _ _ built from,
+          let so-far = loop .inv .1 s h in
+          let entry = bar-build h so-far below (load .ensures) (load2 .ensures) (enter .ensures s (bar-enter (h .entry) (loop .b) below)) in
+          let told = build .ensures s entry in
+          in-bars-more h so-far below (load .ensures) (load2 .ensures) {rows″ = build .last .1 .1 .0} {then = build .last .1 .1 .1 .0} told,
     )
 
 same-length : tie.Need-same-length Inv-loop μ-loop
 same-length c =
-    let start = c .before .before .before .before .before in
+    let start = c .before .before .before .before .before .before in
     let loop = c .before .loop in
     let s = start .pre .0 in
     let h = start .pre .1 in
-    loop .inv .2 s h .sound .size ∙ sym (h .entry .sound .size)
+    let so-far = loop .inv .1 s h in
+    so-far .sound .size ∙ sym (h .entry .sound .size)
 
 same-length-2 : tie.Need-same-length-2 Inv-loop μ-loop
 same-length-2 c =
-    let start = c .before .before .before .before .before in
+    let start = c .before .before .before .before .before .before in
     let loop = c .before .loop in
     let s = start .pre .0 in
     let h = start .pre .1 in
-    ap length (loop .inv .2 s h .partway .written) ∙ length-over-from _ _ _
+    let so-far = loop .inv .1 s h in
+    ap length (so-far .partway .written) ∙ length-over-from _ _ _
 
 returns : tie.Need-returns Inv-loop μ-loop
 returns c =
+    let start = c .before .before .before .before .before .before in
     let loop = c .before .loop in
     let loop-test = c .loop-test in
-    λ s h. in-bars-all h _ _ (loop .b) (loop .lo) _ _ _ (loop .next) (loop .inv .2 s h) (omega (arith, loop-test .left, loop .inv .1))
+    let all : loop .b ≡ start .args .count = omega (arith, loop-test .left, loop .inv .0) in
+    λ s h. in-bars-all h (loop .inv .1 s h) all
 
 pub build-bars-spec : {M : Type 1} → statement M
 build-bars-spec =
@@ -164,14 +180,17 @@ build-bars-spec =
     Inv-loop
     μ-loop
     loop-holds
-    add-b
+    enter-requires
     mul-load
+    mul-load-2
+    add-load
     load-requires
+    cast-lo
+    mul-lo
+    add-b
+    mul-load-3
+    load-requires-2
     build-requires
-    mul-due
-    array-read-due
-    add-lo
-    first-behind-requires
     loop-less
     loop-again
     same-length

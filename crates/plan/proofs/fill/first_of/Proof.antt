@@ -19,8 +19,8 @@ abbrev μ-loop : tie.MeasureT-loop
 loop-holds : tie.Need-loop-holds Inv-loop μ-loop
 loop-holds c = (search needs, λ s t i less. absurd (omega arith))
 
-is-division-requires : tie.Need-is-division-requires Inv-loop μ-loop
-is-division-requires c κs = search needs
+is-division-of-requires : tie.Need-is-division-of-requires Inv-loop μ-loop
+is-division-of-requires c κs = search needs
 
 returns : tie.Need-returns Inv-loop μ-loop
 returns c = let loop = c .before .before .before in (search needs, loop .loop .inv .1)
@@ -34,11 +34,11 @@ loop-less c = search needs
 loop-again : tie.Need-loop-again Inv-loop μ-loop
 loop-again c =
     let loop = c .before .before .before in
-    (search needs, λ s t. below-more _ _ (loop .loop .inv .1 s t) (c .before .is-division .ensures s t (c .if1 .left)))
+    (search needs, λ s t. below-more _ _ (loop .loop .inv .1 s t) (c .before .is-division-of .ensures s t (c .if1 .left)))
 
 returns-2 : tie.Need-returns-2 Inv-loop μ-loop
 returns-2 c = let loop = c .before in (search needs, λ s t i less. loop .loop .inv .1 s t i (omega arith))
 
 pub first-of-spec : {M : Type 1} → statement M
 first-of-spec =
-    tie.close (tie.spec Inv-loop μ-loop loop-holds is-division-requires returns add-r loop-less loop-again returns-2)
+    tie.close (tie.spec Inv-loop μ-loop loop-holds is-division-of-requires returns add-r loop-less loop-again returns-2)

@@ -23,8 +23,8 @@ loop-holds c = (search needs, λ s t i least less. absurd (omega arith))
 sub-rule : tie.Need-sub-rule Inv-loop μ-loop
 sub-rule c = search needs
 
-is-division-requires : tie.Need-is-division-requires Inv-loop μ-loop
-is-division-requires c κs = search needs
+is-division-of-requires : tie.Need-is-division-of-requires Inv-loop μ-loop
+is-division-of-requires c κs = search needs
 
 returns : tie.Need-returns Inv-loop μ-loop
 returns c = let loop = c .before .before .before in (search needs, loop .loop .inv .1)
@@ -39,7 +39,7 @@ loop-again c =
       search needs,
       λ s t i least less. elim (decLt i (loop .loop .r)) [
         | no k ↦ loop .loop .inv .1 s t i (omega arith) less
-        | yes k ↦ subst (λ (j : ℕ). NotHead s q j) (omega arith) (c .before .is-division .ensures s t (c .if1 .left))
+        | yes k ↦ subst (λ (j : ℕ). NotHead s q j) (omega arith) (c .before .is-division-of .ensures s t (c .if1 .left))
       ],
     )
 
@@ -48,4 +48,4 @@ returns-2 c = let loop = c .before in (search needs, λ s t i least. loop .loop 
 
 pub last-of-spec : {M : Type 1} → statement M
 last-of-spec =
-    tie.close (tie.spec Inv-loop μ-loop loop-holds sub-rule is-division-requires returns loop-less loop-again returns-2)
+    tie.close (tie.spec Inv-loop μ-loop loop-holds sub-rule is-division-of-requires returns loop-less loop-again returns-2)

@@ -1,10 +1,10 @@
--- `least_leaves` meets its contract. The loop's invariant: the cells are the least costs among the first `r` rules of any sheet that the
+-- `least_leaves` meets its contract. The loop's invariant: the cells are the packed minima over the first `r` rules of any sheet that the
 -- tables hold. The measure is the number of rules left. Assumes nothing.
 use Prim.Native.Nat.{_-_, _≤_}
 use mathlib.Core.Path.{_≡_, refl}
 use native.Mathlib.Omega.{arith}
 use lib.ListN.{length}
-use Rattle.plan.proofs.LeafSteps.{Lowered, least-none, least-all}
+use Rattle.plan.proofs.LeafSteps.{Lowered, packed-none, packed-all}
 use Rattle.plan.proofs.LeafSteps.{lowered-division, lowered-past, lowered-kept, lowered-set}
 use Rattle.plan.proofs.RuleSteps.{weighted-most}
 use borrow.Author.Needs.{needs}
@@ -18,7 +18,7 @@ abbrev μ-loop : tie.MeasureT-loop
 μ-loop rules a count leaves₀ r₀ leaves r = count - r
 
 loop-holds : tie.Need-loop-holds Inv-loop μ-loop
-loop-holds c = (search needs, refl, λ s t m. least-none s)
+loop-holds c = (search needs, refl, λ s t m. packed-none s)
 
 rule-at-requires : tie.Need-rule-at-requires Inv-loop μ-loop
 rule-at-requires c κs = search needs
@@ -57,11 +57,23 @@ cast-at-2 c = search needs
 add-at : tie.Need-add-at Inv-loop μ-loop
 add-at c = search needs
 
-cast-cost : tie.Need-cast-cost Inv-loop μ-loop
-cast-cost c = search needs
+cast-cell : tie.Need-cast-cell Inv-loop μ-loop
+cast-cell c = search needs
 
-mul-cost : tie.Need-mul-cost Inv-loop μ-loop
-mul-cost c =
+mul-cell : tie.Need-mul-cell Inv-loop μ-loop
+mul-cell c =
+    let start = c .before .before .before .before .before .before in
+    let weight = c .before .rule .given .0 .1 .0 in
+    omega (arith, weighted-most (start .args .a) weight (search needs) (search needs))
+
+mul-cell-2 : tie.Need-mul-cell-2 Inv-loop μ-loop
+mul-cell-2 c =
+    let start = c .before .before .before .before .before .before in
+    let weight = c .before .rule .given .0 .1 .0 in
+    omega (arith, weighted-most (start .args .a) weight (search needs) (search needs))
+
+add-cell : tie.Need-add-cell Inv-loop μ-loop
+add-cell c =
     let start = c .before .before .before .before .before .before in
     let weight = c .before .rule .given .0 .1 .0 in
     omega (arith, weighted-most (start .args .a) weight (search needs) (search needs))
@@ -122,7 +134,7 @@ loop-again-4 c =
 returns : tie.Need-returns Inv-loop μ-loop
 returns c =
     let loop = c .before in
-    λ s t m n. least-all s (loop .loop .leaves) (loop .loop .r) (loop .loop .inv .2 s t m) (omega (arith, n))
+    λ s t m n. packed-all s (loop .loop .leaves) (loop .loop .r) (loop .loop .inv .2 s t m) (omega (arith, n))
 
 pub least-leaves-spec : {M : Type 1} → statement M
 least-leaves-spec =
@@ -141,8 +153,10 @@ least-leaves-spec =
     mul-at
     cast-at-2
     add-at
-    cast-cost
-    mul-cost
+    cast-cell
+    mul-cell
+    mul-cell-2
+    add-cell
     mul-if2
     array-read-if2
     mul-leaves

@@ -1,8 +1,8 @@
--- `prepare` meets its contract. The loop's invariant: the first `i` cells are those of their sections. The measure is the number of cells
--- left. The four numbers behind the sections are written last. Assumes nothing.
+-- `prepare` meets its contract. The loop's invariant: the first `i` cells are those of the plan. The measure is the number of cells left.
+-- Assumes nothing.
 use Prim.Native.Nat.{_-_, _≤_}
 use mathlib.Core.Path.{refl}
-use mir.Syntax.{w32}
+use mir.Syntax.{w32, w64}
 use mir.Val.{Fits}
 use lib.ListN.{getD}
 use native.Mathlib.Omega.{arith}
@@ -13,11 +13,11 @@ use Rattle.plan.proofs.fill.prepare.Statement.{statement}
 use Rattle.plan.proofs.fill.prepare.Tie as tie
 
 abbrev Inv-loop : tie.InvT-loop
-Inv-loop grammar rules children leaves lens count n heads plan₀ i₀ plan i =
-    (i ≤ 1516) × Cells rules children leaves lens count n heads plan i
+Inv-loop rules children a leaves lens count n heads plan₀ i₀ plan i =
+    (i ≤ 3055) × Cells rules children leaves lens a heads count n plan i
 
 abbrev μ-loop : tie.MeasureT-loop
-μ-loop grammar rules children leaves lens count n heads plan₀ i₀ plan i = 1516 - i
+μ-loop rules children a leaves lens count n heads plan₀ i₀ plan i = 3055 - i
 
 pack-rules-requires : tie.Need-pack-rules-requires Inv-loop μ-loop
 pack-rules-requires c κs = search needs
@@ -42,8 +42,8 @@ loop-holds c = (search needs, record { size = refl; each = λ j l. absurd (omega
 children-small : (c : tie.Start Inv-loop μ-loop) → Small (c .args .grammar .children)
 children-small c i = let f : Fits w32 (getD (c .args .grammar .children) i 0) = search needs in f .fits
 
-section-at-requires : tie.Need-section-at-requires Inv-loop μ-loop
-section-at-requires c κs =
+cell-at-requires : tie.Need-cell-at-requires Inv-loop μ-loop
+cell-at-requires c κs =
     let called = c .before .before .before .before .before .before .before .before in
     let lengths = called .lengths in
     let start = called .before .before .before .before .before in
@@ -56,6 +56,7 @@ section-at-requires c κs =
       length-cells h good (lengths .result) (lengths .ensures .1 h good (start .pre .2)),
       few-rules (start .args .grammar) h good (start .pre .2),
       few-heads (start .args .grammar) h good (start .pre .2),
+      (λ i. let f : Fits w64 (getD (called .before .least-leaves .result) i 0) = search needs in f .fits),
     )
 
 mul-plan : tie.Need-mul-plan Inv-loop μ-loop
@@ -73,26 +74,11 @@ loop-less c = search needs
 loop-again : tie.Need-loop-again Inv-loop μ-loop
 loop-again c =
     let loop = c .before .before .before .before .before .before in
-    (search needs, cells-next _ _ _ _ _ _ _ _ (loop .loop .i) _ (loop .loop .inv .1) (search needs) (c .section-at .ensures))
-
-cast-plan : tie.Need-cast-plan Inv-loop μ-loop
-cast-plan c = search needs
-
-array-write-plan-2 : tie.Need-array-write-plan-2 Inv-loop μ-loop
-array-write-plan-2 c = search needs
-
-array-write-plan-3 : tie.Need-array-write-plan-3 Inv-loop μ-loop
-array-write-plan-3 c = search needs
-
-array-write-plan-4 : tie.Need-array-write-plan-4 Inv-loop μ-loop
-array-write-plan-4 c = search needs
-
-array-write-plan-5 : tie.Need-array-write-plan-5 Inv-loop μ-loop
-array-write-plan-5 c = search needs
+    (search needs, cells-next _ _ _ _ _ _ _ _ _ (loop .loop .i) _ (loop .loop .inv .1) (search needs) (c .cell-at .ensures))
 
 returns : tie.Need-returns Inv-loop μ-loop
 returns c =
-    let loop = c .before .before in
+    let loop = c .before in
     let lengths = loop .before .before .before in
     let leaves = lengths .before in
     let pack = leaves .before .before .before in
@@ -113,15 +99,10 @@ prepare-spec =
     lengths-requires
     cast-heads
     loop-holds
-    section-at-requires
+    cell-at-requires
     mul-plan
     array-write-plan
     add-i
     loop-less
     loop-again
-    cast-plan
-    array-write-plan-2
-    array-write-plan-3
-    array-write-plan-4
-    array-write-plan-5
     returns)

@@ -5,22 +5,24 @@ use mathlib.Core.Path.{_≡_, ap, _∙_}
 use native.Mathlib.Omega.{arith}
 use borrow.Author.Needs.{needs}
 use Rattle.sheet.specs.Sheet.{Sheet}
+use Rattle.sheet.specs.Good.{GoodRules}
 use Rattle.sizes.specs.Sizes.{largest}
 use Rattle.plan.specs.Plan.{savedAt}
 use Rattle.plan.specs.PlanLaws.{token-below}
-use Rattle.plan.specs.Sections.{LeastLeaves}
+use Rattle.plan.specs.Sections.{PackedLeaves}
 use Rattle.plan.proofs.SavedSteps.{largest-none, largest-next, saved-cell}
 use Rattle.plan.proofs.fill.saved_at.Statement.{statement}
 use Rattle.plan.proofs.fill.saved_at.Tie as tie
 
 abbrev Inv-loop : tie.InvT-loop
-Inv-loop leaves q c most₀ e₀ most e = (e ≤ 4) × ((s : Sheet) → LeastLeaves s leaves → most ≡ largest (savedAt s q c) e)
+Inv-loop leaves q c most₀ e₀ most e = (e ≤ 4) × ((s : Sheet) → GoodRules (s .grammar) → PackedLeaves s leaves
+    → most ≡ largest (savedAt s q c) e)
 
 abbrev μ-loop : tie.MeasureT-loop
 μ-loop leaves q c most₀ e₀ most e = 4 - e
 
 loop-holds : tie.Need-loop-holds Inv-loop μ-loop
-loop-holds c = (search needs, λ s t. largest-none (savedAt s _ _))
+loop-holds c = (search needs, λ s g t. largest-none (savedAt s _ _))
 
 add-token-of : tie.Need-add-token-of Inv-loop μ-loop
 add-token-of c = search needs
@@ -79,18 +81,18 @@ loop-again c =
     let q = start .args .q in
     let c₀ = start .args .c in (
       search needs,
-      λ s t.
+      λ s g t.
           let less : _ ≡ savedAt s q c₀ (loop .e) =
-          saved-cell s (start .args .leaves .now) t q c₀ (loop .e) (back .token-of .result) (start .pre .0)
+          saved-cell s g (start .args .leaves .now) t q c₀ (loop .e) (back .token-of .result) (start .pre .0)
           (back .before .loop-test .taken) (back .token-of .ensures) in
-          largest-next (savedAt s q c₀) (loop .e) (loop .most) _ _ (loop .inv .1 s t) (c .before .excess .ensures ∙ less)
+          largest-next (savedAt s q c₀) (loop .e) (loop .most) _ _ (loop .inv .1 s g t) (c .before .excess .ensures ∙ less)
           (c .larger .ensures),
     )
 
 returns : tie.Need-returns Inv-loop μ-loop
 returns c =
     let loop = c .before .loop in
-    λ s t. loop .inv .1 s t ∙ ap (largest (savedAt s _ _)) (omega (arith, loop .inv .0, c .loop-test .left))
+    λ s g t. loop .inv .1 s g t ∙ ap (largest (savedAt s _ _)) (omega (arith, loop .inv .0, c .loop-test .left))
 
 pub saved-at-spec : {M : Type 1} → statement M
 saved-at-spec =

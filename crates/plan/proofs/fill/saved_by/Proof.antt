@@ -5,22 +5,23 @@ use mathlib.Core.Path.{_≡_}
 use native.Mathlib.Omega.{arith}
 use borrow.Author.Needs.{needs}
 use Rattle.sheet.specs.Sheet.{Sheet}
+use Rattle.sheet.specs.Good.{GoodRules}
 use Rattle.sizes.specs.Sizes.{largest}
 use Rattle.plan.specs.Plan.{savedAt}
-use Rattle.plan.specs.Sections.{LeastLeaves}
+use Rattle.plan.specs.Sections.{PackedLeaves}
 use Rattle.plan.proofs.SavedSteps.{largest-none, largest-next, saved-all}
 use Rattle.plan.proofs.fill.saved_by.Statement.{statement}
 use Rattle.plan.proofs.fill.saved_by.Tie as tie
 
 abbrev Inv-loop : tie.InvT-loop
 Inv-loop leaves heads c most₀ q₀ most q =
-    (q ≤ heads) × ((s : Sheet) → LeastLeaves s leaves → most ≡ largest (λ p. largest (savedAt s p c) 4) q)
+    (q ≤ heads) × ((s : Sheet) → GoodRules (s .grammar) → PackedLeaves s leaves → most ≡ largest (λ p. largest (savedAt s p c) 4) q)
 
 abbrev μ-loop : tie.MeasureT-loop
 μ-loop leaves heads c most₀ q₀ most q = heads - q
 
 loop-holds : tie.Need-loop-holds Inv-loop μ-loop
-loop-holds c = (search needs, λ s t. largest-none (λ p. largest (savedAt s p _) 4))
+loop-holds c = (search needs, λ s g t. largest-none (λ p. largest (savedAt s p _) 4))
 
 saved-at-requires : tie.Need-saved-at-requires Inv-loop μ-loop
 saved-at-requires c κs = search needs
@@ -39,8 +40,9 @@ loop-again c =
     let loop = c .before .before .before .loop in
     let c₀ = c .before .before .before .before .args .c in (
       search needs,
-      λ s t.
-          largest-next (λ p. largest (savedAt s p c₀) 4) (loop .q) (loop .most) _ _ (loop .inv .1 s t) (c .before .saved-at .ensures s t)
+      λ s g t.
+          largest-next (λ p. largest (savedAt s p c₀) 4) (loop .q) (loop .most) _ _ (loop .inv .1 s g t)
+          (c .before .saved-at .ensures s g t)
           (c .larger .ensures),
     )
 
@@ -48,7 +50,7 @@ returns : tie.Need-returns Inv-loop μ-loop
 returns c =
     let loop = c .before .loop in
     let c₀ = c .before .before .args .c in
-    λ s t k. saved-all s c₀ (loop .q) (loop .most) (loop .inv .1 s t) (omega (arith, k, loop .inv .0, c .loop-test .left))
+    λ s g t k. saved-all s c₀ (loop .q) (loop .most) (loop .inv .1 s g t) (omega (arith, k, loop .inv .0, c .loop-test .left))
 
 pub saved-by-spec : {M : Type 1} → statement M
 saved-by-spec =

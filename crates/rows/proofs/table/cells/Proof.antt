@@ -1,9 +1,9 @@
 -- `cells` meets its contract. An interval without an onset is a leaf; a row that bears the bar's stamp is the item's, since the table is
--- sound; else `solve` gives it. Assumes nothing.
+-- sound; else `fresh` gives it. Assumes nothing.
 use native.Mathlib.Omega.{arith}
 use borrow.Author.Needs.{needs}
 use Rattle.rows.specs.NameLaws.{stands-bar, stands-length, solve-room, solve-loaded}
-use Rattle.rows.specs.CallLaws.{leaf-entry, entry-near, entry-first, entry-leaf, entry-slot, entry-solve}
+use Rattle.rows.specs.CallLaws.{entry-near, entry-first, entry-asked, entry-leaf, entry-slot, entry-solve}
 use Rattle.rows.proofs.table.cells.Statement.{statement}
 use Rattle.rows.proofs.table.cells.Tie as tie
 
@@ -14,45 +14,31 @@ length-requires c κs =
     (stands-length (e .stands), (start .pre .0, e .stands .in-bar .prepared))
 
 add-if1 : tie.Need-add-if1
-add-if1 c =
-    let start = c .before .before .before .before in
-    let length = c .before .before .length in
-    let e = start .pre .1 in
-    omega (arith, entry-near e (length .ensures))
+add-if1 c = omega (arith, entry-near (c .before .before .before .before .pre .1) (c .before .before .length .ensures))
 
 mul-if1 : tie.Need-mul-if1
-mul-if1 c =
-    let start = c .before .before .before .before in
-    let length = c .before .before .length in
-    let e = start .pre .1 in
-    omega (arith, entry-first e (length .ensures))
+mul-if1 c = omega (arith, entry-first (c .before .before .before .before .pre .1) (c .before .before .length .ensures))
 
 element-copy-out-if1 : tie.Need-element-copy-out-if1
-element-copy-out-if1 c =
-    let start = c .before .before .before .before in
-    let length = c .before .before .length in
-    let e = start .pre .1 in
-    omega (arith, entry-first e (length .ensures))
+element-copy-out-if1 c = omega (arith, entry-first (c .before .before .before .before .pre .1) (c .before .before .length .ensures))
 
-leaf-row-requires : tie.Need-leaf-row-requires
-leaf-row-requires c κs =
+leaf-cell-requires : tie.Need-leaf-cell-requires
+leaf-cell-requires c κs =
     let start = c .before .before .before .before .before .before in
     let length = c .before .before .before .before .length in
-    (start .pre .0, leaf-entry (start .pre .1) (length .ensures))
+    entry-asked (start .pre .1) (length .ensures)
 
 returns : tie.Need-returns
 returns c =
     let length = c .before .before .before .before .before .length in
     let if1 = c .before .if1 in
-    let leaf-row = c .leaf-row in
-    λ s e. entry-leaf e (length .ensures) (if1 .taken) (leaf-row .ensures s (leaf-entry e (length .ensures)))
+    let leaf-cell = c .leaf-cell in
+    λ s e. entry-leaf e (length .ensures) (if1 .taken) (leaf-cell .ensures)
 
 place-of-requires : tie.Need-place-of-requires
 place-of-requires c κs =
     let start = c .before .before .before .before .before .before in
-    let length = c .before .before .before .before .length in
-    let if1 = c .if1 in
-    (start .pre .0, entry-slot (start .pre .1) (length .ensures) (if1 .left))
+    (start .pre .0, entry-slot (start .pre .1) (c .before .before .before .before .length .ensures) (c .if1 .left))
 
 mul-if2 : tie.Need-mul-if2
 mul-if2 c =
@@ -65,25 +51,21 @@ mul-if2 c =
 
 slice-read-if2 : tie.Need-slice-read-if2
 slice-read-if2 c =
-    let start = c .before .before .before .before .before .before .before .before in
     let length = c .before .before .before .before .before .before .length in
     let if1 = c .before .before .if1 in
     let place-of = c .before .place-of in
-    let e = start .pre .1 in
+    let e = c .before .before .before .before .before .before .before .before .pre .1 in
     omega (arith, solve-room (entry-solve e (length .ensures) (if1 .left) (place-of .ensures)) (e .sound))
 
 add-if2 : tie.Need-add-if2
-add-if2 c =
-    let start = c .before .before .before .before .before .before .before .before in
-    omega (arith, stands-bar (start .pre .1 .stands))
+add-if2 c = omega (arith, stands-bar (c .before .before .before .before .before .before .before .before .pre .1 .stands))
 
 load-requires : tie.Need-load-requires
 load-requires c κs =
-    let start = c .before .before .before .before .before .before .before .before .before .before in
     let length = c .before .before .before .before .before .before .before .before .length in
     let if1 = c .before .before .before .before .if1 in
     let place-of = c .before .before .before .place-of in
-    let e = start .pre .1 in
+    let e = c .before .before .before .before .before .before .before .before .before .before .pre .1 in
     solve-room (entry-solve e (length .ensures) (if1 .left) (place-of .ensures)) (e .sound)
 
 same-length : tie.Need-same-length
@@ -98,8 +80,8 @@ returns-2 c =
     let load = c .load in
     λ s e. solve-loaded (entry-solve e (length .ensures) (if1 .left) (place-of .ensures)) (if2 .taken) (load .ensures)
 
-solve-requires : tie.Need-solve-requires
-solve-requires c κs =
+fresh-requires : tie.Need-fresh-requires
+fresh-requires c κs =
     let start = c .before .before .before .before .before .before .before .before .before .before in
     let length = c .before .before .before .before .before .before .before .before .length in
     let if1 = c .before .before .before .before .if1 in
@@ -115,8 +97,8 @@ returns-3 c =
     let length = c .before .before .before .before .before .before .before .before .before .before .before .length in
     let if1 = c .before .before .before .before .before .before .before .if1 in
     let place-of = c .before .before .before .before .before .before .place-of in
-    let solve = c .before .before .solve in
-    λ s e. solve .ensures s (entry-solve e (length .ensures) (if1 .left) (place-of .ensures))
+    let fresh = c .before .before .fresh in
+    λ s e. fresh .ensures s (entry-solve e (length .ensures) (if1 .left) (place-of .ensures))
 
 pub cells-spec : {M : Type 1} → statement M
 cells-spec =
@@ -126,7 +108,7 @@ cells-spec =
     add-if1
     mul-if1
     element-copy-out-if1
-    leaf-row-requires
+    leaf-cell-requires
     returns
     place-of-requires
     mul-if2
@@ -135,6 +117,6 @@ cells-spec =
     load-requires
     same-length
     returns-2
-    solve-requires
+    fresh-requires
     same-length-2
     returns-3)

@@ -55,7 +55,7 @@ least-requires-4 c κs = search needs
 
 returns : tie.Need-returns
 returns c =
-    lowest-four _ _ _ _ _ (c .before .before .before .least .ensures) (c .before .before .least2 .ensures)
+    lowest-four _ _ _ _ _ _ (c .before .before .before .least .ensures) (c .before .before .least2 .ensures)
     (c .before .least3 .ensures) (c .least4 .ensures)
 
 pub dot-spec : {M : Type 1} → statement M

@@ -1,0 +1,137 @@
+-- `lift`: an idle carry state lowers nothing (`taken-skip`); else the row that is loaded, or solved, is the item's (`lift-more`).
+use Prim.Native.Nat.{ℕ}
+use native.Mathlib.Omega.{arith}
+use borrow.Author.Needs.{needs}
+use Rattle.rows.specs.NameLaws.{stands-bar, solve-room, solve-loaded}
+use Rattle.rows.specs.TurnLaws.{row-low}
+use Rattle.rows.specs.IdleLaws.{taken-skip}
+use Rattle.rows.specs.CallLaws.{lift-slot, lift-solve, lift-more}
+use Rattle.rows.proofs.table.lift.Reads as lift
+use Rattle.rows.proofs.table.+fresh+lift+part+parts+solve.Lts-lift as lift-lts
+use Rattle.rows.proofs.table.fresh.Reads as fresh
+use Rattle.rows.proofs.table.idle_at.Reads as idle-at-reads
+use Rattle.rows.proofs.slots.load.Reads as load-reads
+use Rattle.rows.proofs.slots.place_of.Reads as place-of-reads
+use Rattle.rows.proofs.vector.relax.Reads as relax-reads
+use Rattle.rows.proofs.vector.totals.Reads as totals-reads
+use Rattle.rows.proofs.table.+fresh+lift+part+parts+solve.Proof.Measures.{fresh-below, lift-at}
+
+module _ (t : ℕ) where
+  -- the readings of the callees of `lift`
+  abbrev pub calls : lift-lts.Claims
+  calls = (
+    idle-at-reads.Asked,
+    idle-at-reads.Learnt,
+    place-of-reads.Asked,
+    place-of-reads.Learnt,
+    load-reads.Asked,
+    load-reads.Learnt,
+    totals-reads.Asked,
+    totals-reads.Learnt,
+    relax-reads.Asked,
+    relax-reads.Learnt,
+    fresh-below t,
+    fresh.Post,
+  )
+
+  pub idle-at-requires : lift-lts.Need-idle-at-requires calls (lift-at t) lift.Post
+  idle-at-requires c κs =
+      let start = c .before in
+      let h = start .pre .1 .2 in
+      (h .few, omega (arith, h .zero-is, h .low 0), (start .pre .1 .0, h .stands .in-bar .prepared))
+
+  pub returns : lift-lts.Need-returns calls (lift-at t) lift.Post
+  returns c =
+      let idle-at = c .before .idle-at in
+      λ s v h.
+      let prepared = h .stands .in-bar .prepared in
+      let idle = idle-at .ensures s v prepared (h .zero-is) (h .total-is) (c .if1 .taken) in
+      taken-skip s (prepared .good) _ (h .few) (h .taken) idle
+
+  pub place-of-requires : lift-lts.Need-place-of-requires calls (lift-at t) lift.Post
+  place-of-requires c κs =
+      let start = c .before .before .before in
+      (start .pre .1 .0, lift-slot (start .pre .1 .2))
+
+  pub mul-if2 : lift-lts.Need-mul-if2 calls (lift-at t) lift.Post
+  mul-if2 c =
+      let start = c .before .before .before .before in
+      let h = start .pre .1 .2 in
+      let e = lift-solve h (c .place-of .ensures) in
+      omega (arith, solve-room e (h .taken .sound), start .good)
+
+  pub slice-read-if2 : lift-lts.Need-slice-read-if2 calls (lift-at t) lift.Post
+  slice-read-if2 c =
+      let start = c .before .before .before .before .before in
+      let h = start .pre .1 .2 in
+      let e = lift-solve h (c .before .place-of .ensures) in
+      omega (arith, solve-room e (h .taken .sound))
+
+  pub add-if2 : lift-lts.Need-add-if2 calls (lift-at t) lift.Post
+  add-if2 c =
+      let start = c .before .before .before .before .before in
+      omega (arith, stands-bar (start .pre .1 .2 .stands))
+
+  pub load-requires : lift-lts.Need-load-requires calls (lift-at t) lift.Post
+  load-requires c κs =
+      let start = c .before .before .before .before .before .before .before in
+      let h = start .pre .1 .2 in
+      let e = lift-solve h (c .before .before .before .place-of .ensures) in
+      solve-room e (h .taken .sound)
+
+  pub totals-requires : lift-lts.Need-totals-requires calls (lift-at t) lift.Post
+  totals-requires c κs = search needs
+
+  pub relax-requires : lift-lts.Need-relax-requires calls (lift-at t) lift.Post
+  relax-requires c κs =
+      let start = c .before .before .before .before .before .before .before .before .before in
+      let place-of = c .before .before .before .before .before .place-of in
+      let h = start .pre .1 .2 in
+      let row = solve-loaded (lift-solve h (place-of .ensures)) (c .before .before .before .if2 .taken) (c .before .load .ensures) in
+      (omega (arith, h .total-is, h .low (start .args .c)), row-low (h .stands .in-bar .prepared .good) (h .few) row (c .totals .ensures))
+
+  pub same-length : lift-lts.Need-same-length calls (lift-at t) lift.Post
+  same-length c = search needs
+
+  pub returns-2 : lift-lts.Need-returns-2 calls (lift-at t) lift.Post
+  returns-2 c =
+      let place-of = c .before .before .before .before .before .before .place-of in
+      let if2 = c .before .before .before .before .if2 in
+      let load = c .before .before .load in
+      let totals = c .before .totals in
+      let relax = c .relax in
+      λ s v h.
+      let row = solve-loaded (lift-solve h (place-of .ensures)) (if2 .taken) (load .ensures) in
+      lift-more h row (totals .ensures) (relax .ensures)
+
+  pub fresh-requires : lift-lts.Need-fresh-requires calls (lift-at t) lift.Post
+  fresh-requires c κs =
+      let start = c .before .before .before .before .before .before .before in
+      let h = start .pre .1 .2 in
+      let e = lift-solve h (c .before .before .before .place-of .ensures) in
+      (omega (arith, start .pre .0), (start .pre .1 .0, e))
+
+  pub totals-requires-2 : lift-lts.Need-totals-requires-2 calls (lift-at t) lift.Post
+  totals-requires-2 c κs = search needs
+
+  pub relax-requires-2 : lift-lts.Need-relax-requires-2 calls (lift-at t) lift.Post
+  relax-requires-2 c κs =
+      let start = c .before .before .before .before .before .before .before .before .before .before .before in
+      let place-of = c .before .before .before .before .before .before .before .place-of in
+      let fresh = c .before .before .before .fresh in
+      let h = start .pre .1 .2 in
+      let row = fresh .ensures _ (lift-solve h (place-of .ensures)) in
+      (omega (arith, h .total-is, h .low (start .args .c)), row-low (h .stands .in-bar .prepared .good) (h .few) row (c .totals2 .ensures))
+
+  pub same-length-2 : lift-lts.Need-same-length-2 calls (lift-at t) lift.Post
+  same-length-2 c = search needs
+
+  pub returns-3 : lift-lts.Need-returns-3 calls (lift-at t) lift.Post
+  returns-3 c =
+      let place-of = c .before .before .before .before .before .before .before .before .place-of in
+      let fresh = c .before .before .before .before .fresh in
+      let totals2 = c .before .totals2 in
+      let relax2 = c .relax2 in
+      λ s v h.
+      let row = fresh .ensures s (lift-solve h (place-of .ensures)) in
+      lift-more h row (totals2 .ensures) (relax2 .ensures)

@@ -1,0 +1,191 @@
+// Rows of items with one onset inside that nothing is carried into: cells 0 and 1, since cells 2 and 3 have no tree. Of a division's parts
+// only the one with the onset is looked up; the plan has what the others add.
+ghost use mathlib.Core.Path.{_≡_};
+ghost use mathlib.Core.Bool.{true};
+ghost use Prim.Native.Nat.{_+_, _≤_, _<_};
+ghost use Rattle.sheet.specs.Sheet.{Sheet};
+ghost use Rattle.trees.specs.Instance.{onsetsIn};
+ghost use Rattle.expansions.specs.Tables.{lastUnit};
+ghost use Rattle.plan.specs.Plan.{Prepared, lengthAt};
+ghost use Rattle.rows.specs.Slots.{itemAt};
+ghost use Rattle.rows.specs.Rows.{Row};
+ghost use Rattle.rows.specs.TurnLaws.{Ruled};
+ghost use Rattle.rows.specs.One.{pairRow, AloneEntry, OnePart, OneEntry, LeafOne, OneRule};
+use crate::slots::Bar;
+use crate::slots::MARK;
+use crate::slots::place_of;
+use crate::slots::store;
+use crate::vector::NO_CELL;
+use crate::vector::least;
+use plan::child;
+use plan::first_division;
+use plan::last_division;
+use plan::leaf_cell;
+use plan::length;
+use plan::split_at;
+use plan::way;
+use sheet::Units;
+
+// Cells 0 and 1 of a row.
+pub struct Pair {
+    pub zero: u64,
+    pub one: u64,
+}
+
+// Whether nothing is carried in and the onset at place `from` is the only one inside.
+pub fn alone<'a>(
+    plan: &'a [u64; 3055],
+    units: &'a [u32; 513],
+    l: usize,
+    left: Units,
+    from: usize,
+    c: usize,
+) -> bool
+    requires { ⌜ ((s : Sheet) × AloneEntry s (now plan) (now units) l left from) ⌝ }
+    ensures { λ r. ⌜
+        ((s : Sheet) → AloneEntry s (now (plan .entry)) (now (units .entry)) l left from → r ≡ true
+        → (c ≡ 0) × (onsetsIn s (left .0) (lengthAt s l) ≡ 1))
+        ⌝ }
+{
+    if c != 0 {
+        return false;
+    }
+    let len = length(plan, l);
+    if left.0 + len.0 <= units[from + 1] {
+        return true;
+    }
+    false
+}
+
+// A leaf of nonterminal q whose only onset is d behind its left bound.
+fn leaf_one(plan: &[u64; 3055], q: usize, len: Units, d: u32) -> Pair
+    requires { ⌜ (q < 16) × (d ≤ len .0) × (len .0 ≤ lastUnit) × ((s : Sheet) × Prepared s (now plan)) ⌝ }
+    ensures { λ x. ⌜ LeafOne (now (plan .entry)) q (len .0) d x ⌝ }
+{
+    let n = len.0;
+    if 2 * d < n {
+        let w = leaf_cell(plan, q, 1);
+        let x = least(NO_CELL, w + 64 * (d as u64));
+        return Pair {
+            zero: x,
+            one: NO_CELL,
+        };
+    }
+    let w = leaf_cell(plan, q, 0);
+    let x = least(NO_CELL, w + 64 * ((n - d) as u64));
+    Pair {
+        zero: NO_CELL,
+        one: x,
+    }
+}
+
+// Solves the row of an item with one onset inside, from carry state 0, and stores it at its place.
+pub fn solve_one<'a>(
+    plan: &'a [u64; 3055],
+    units: &'a [u32; 513],
+    rows: &mut [u64],
+    bar: Bar,
+    q: usize,
+    l: usize,
+    left: Units,
+    from: usize,
+    at: usize,
+) -> Pair
+    requires { ⌜ ((s : Sheet) × OneEntry s (now plan) (now units) (now rows) bar q l left from at) ⌝ }
+    ensures { λ x. ⌜
+        ((s : Sheet) → OneEntry s (now (plan .entry)) (now (units .entry)) (now (rows .entry)) bar q l left from at
+        → Row s (now (rows .exit)) (itemAt s q l left) 0 (pairRow x))
+        ⌝ }
+{
+    let len = length(plan, l);
+    let d = units[from] - left.0;
+    let last = last_division(plan, q);
+    let leaf = leaf_one(plan, q, len, d);
+    let mut zero = leaf.zero;
+    let mut one = leaf.one;
+    let mut r = first_division(plan, q);
+    while r < last {
+        let rule = r;
+        r += 1;
+        let split = split_at(plan, q, l, rule);
+        let k = split.arity;
+        let h = split.part;
+        if k != 0 {
+            let best = Pair { zero, one };
+            let y = rule_one(plan, units, rows, bar, rule, h, left, from, d, best);
+            zero = y.zero;
+            one = y.one;
+        }
+    }
+    store(
+        rows,
+        at,
+        [zero, one, NO_CELL, NO_CELL],
+        (bar.number as u64) + 1,
+    );
+    Pair { zero, one }
+}
+
+// One rule more of an item whose only onset is d behind its left bound: rule r, with parts of the length with index l.
+fn rule_one<'a>(
+    plan: &'a [u64; 3055],
+    units: &'a [u32; 513],
+    rows: &mut [u64],
+    bar: Bar,
+    r: usize,
+    l: usize,
+    left: Units,
+    from: usize,
+    d: u32,
+    best: Pair,
+) -> Pair
+    requires { ⌜ ((s : Sheet) × OneRule s (now plan) (now units) (now rows) bar r l left from d best) ⌝ }
+    ensures { λ x. ⌜
+        ((s : Sheet) (e : OneRule s (now (plan .entry)) (now (units .entry)) (now (rows .entry)) bar r l left from d best)
+        → Ruled s (now (rows .exit)) (itemAt s (e .q) (e .whole) left) 0 (r + 1) (pairRow x))
+        ⌝ }
+{
+    let len = length(plan, l);
+    let i = d / len.0;
+    let part = i as usize;
+    let q = child(plan, r, part);
+    let lo = left.0 + i * len.0;
+    let y = part_one(plan, units, rows, bar, q, l, Units(lo), from);
+    let zero = y.zero / 64 * 64;
+    let one = y.one / 64 * 64;
+    let a = least(zero + way(plan, r, part, 0), one + way(plan, r, part, 1));
+    let b = one + way(plan, r, part, 2);
+    Pair {
+        zero: least(best.zero, a),
+        one: least(best.one, b),
+    }
+}
+
+// Cells 0 and 1 of the row of a part with one onset inside, from carry state 0.
+fn part_one<'a>(
+    plan: &'a [u64; 3055],
+    units: &'a [u32; 513],
+    rows: &mut [u64],
+    bar: Bar,
+    q: usize,
+    l: usize,
+    left: Units,
+    from: usize,
+) -> Pair
+    requires { ⌜ ((s : Sheet) × OnePart s (now plan) (now units) (now rows) bar q l left from) ⌝ }
+    ensures { λ x. ⌜
+        ((s : Sheet) → OnePart s (now (plan .entry)) (now (units .entry)) (now (rows .entry)) bar q l left from
+        → Row s (now (rows .exit)) (itemAt s q l left) 0 (pairRow x))
+        ⌝ }
+{
+    let at = place_of(plan, bar, q, l, from, 0);
+    let first = rows[at];
+    if first / MARK == (bar.number as u64) + 1 {
+        let second = rows[at + 1];
+        return Pair {
+            zero: first % MARK,
+            one: second,
+        };
+    }
+    solve_one(plan, units, rows, bar, q, l, left, from, at)
+}
