@@ -16,15 +16,15 @@ use Rattle.sheet.specs.Held.{grammarTable, playingTable, readingOf}
 use Rattle.sheet.specs.Good.{Good}
 use Rattle.sheet.specs.Accepted.{SheetHeld, AcceptedAs, refused-reading}
 use Rattle.sizes.specs.Sizes.{treeBytes, workCells}
-use Rattle.trees.specs.ValidTrees.{ValidTree}
+use Rattle.trees.specs.ValidTrees.{ValidTree, totalOf}
 use Rattle.trees.specs.LeastTotal.{NONE, leastTotal}
 use Rattle.pricing.specs.declared.Priced.{Priced}
 use Rattle.pricing.specs.Pricing as pricing
-use Rattle.pricing.specs.Pricing.{priceSheet, pricedOf}
-use Rattle.pricing.specs.PricingLaws.{tree-priced}
+use Rattle.pricing.specs.Pricing.{pricedOf}
 use Rattle.search.specs.declared.Found.the-variants.{NoTree, Tree}
 use Rattle.search.specs.Search.{SearchEntry, Searched}
 use Rattle.finding.specs.Finding.{hasTree, Outcome, refusal, findSheet, Gives, Finds}
+use Rattle.finding.specs.Figures.{FiguresEntry}
 use Rattle.finding.specs.Outcomes.{work-short, tree-short, none-found, one-found, refused-found, sheet-found, gives}
 use Rattle.finding.specs.FindingLaws.{tree-fits, has-tree}
 
@@ -77,7 +77,7 @@ module _ {s : Sheet} {g : GrammarTable} {p : PlayingTable} {tree work : List ℕ
         (le-ltb (leastTotal s) NONE (f .found .0)))
         (record { zeros = e; tree-kept = f .found .1 }, f .clear)
 
-    module _ (n : ℕ) (f : Searched s tree after work clear (Tree n)) where
+    module _ (n total : ℕ) (f : Searched s tree after work clear (Tree n total)) where
       abbrev bs : List ℕ
       bs = f .found .0
 
@@ -96,18 +96,29 @@ module _ {s : Sheet} {g : GrammarTable} {p : PlayingTable} {tree work : List ℕ
       front : take n after ≡ bs
       front = ap (λ (m : ℕ). take m after) (f .found .4) ∙ ap (take (length bs)) (f .found .5) ∙ take-over bs tree fits
 
-      pub tree-found : (r : Priced) → r ≡ pricedOf (priceSheet s (take n after))
+      pub figures-entry : FiguresEntry s g (take n after) (f .found .1) (f .found .2) total
+      figures-entry = record {
+        duration = entry .held .duration;
+        good = entry .held .good;
+        held = entry .held .grammar;
+        tree = rw front (f .found .3 .tree .valid);
+        total-is = f .found .6;
+      }
+
+      abbrev found-total : ℕ
+      found-total = totalOf s (f .found .1) (f .found .2)
+
+      pub tree-found : (r : Priced) → r ≡ pricedOf (pricing.priced (length (take n after)) (f .found .1) (f .found .2) found-total)
           → Gives (findSheet s (length tree) (length work)) tree after work clear r
       tree-found r e =
-          let least = f .found .3 .tree in
           gives _ _ (one-found s (length tree) (length work) (entry .work-size) (entry .tree-size)
           (has-tree s (entry .held .duration) (entry .held .good) bs valid)) (
             record {
               bytes = bs;
               weight = f .found .1;
               distance = f .found .2;
-              least = least;
-              figures = e ∙ ap (λ (l : List ℕ). pricedOf (priceSheet s l)) front ∙ ap pricedOf (tree-priced s bs _ _ (least .valid));
+              least = f .found .3 .tree;
+              figures = e ∙ ap (λ (l : List ℕ). pricedOf (pricing.priced (length l) (f .found .1) (f .found .2) found-total)) front;
               tree-written = f .found .5;
             },
             f .clear,

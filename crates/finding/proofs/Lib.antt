@@ -1,2 +1,3 @@
+pub mod FigureSteps
 pub mod FindSteps
 pub mod ReportSteps

@@ -1,4 +1,5 @@
 pub mod Finding
+pub mod Figures
 pub mod Outcomes
 pub mod FindingLaws
 pub mod Numbers

@@ -1,18 +1,80 @@
 // Finding a least tree of the sheet that a text means, and the entry behind the program.
 ghost use mathlib.Core.Path.{_≡_};
-ghost use Prim.Native.Nat.{_≤_};
+ghost use Prim.Native.Nat.{ℕ, _≤_, _<_};
 ghost use lib.ListN.{length};
 ghost use Rattle.sheet.specs.Sheet.{Sheet};
 ghost use Rattle.sheet.specs.Accepted.{SheetHeld};
+ghost use Rattle.trees.specs.ValidTrees.{ruleWeight, totalOf};
+ghost use Rattle.pricing.specs.Pricing.{priced, pricedOf};
 ghost use Rattle.search.specs.Search.{SearchEntry};
 ghost use Rattle.finding.specs.Finding.{findSheet, Gives, Finds};
+ghost use Rattle.finding.specs.Figures.{weightIn, WeightEntry, FiguresEntry};
 ghost use Rattle.finding.specs.Reporting.{refusalLine, Reports};
+use expansions::pack_rules;
+use expansions::rule_at;
 use pricing::Priced;
 use pricing::refused;
 use search::Found;
 use search::least_tree;
 use sheet::GrammarTable;
 use sheet::PlayingTable;
+use sheet::Rule;
+
+// The weight of a rule.
+fn weight_of(rule: Rule) -> u64
+    ensures { λ r. ⌜ (r < 65536) × (r ≡ weightIn rule) ⌝ }
+{
+    match rule {
+        Rule::Division {
+            head: _,
+            weight,
+            arity: _,
+        } => weight as u64,
+        Rule::Leaf {
+            head: _,
+            weight,
+            n: _,
+        } => weight as u64,
+    }
+}
+
+// R of a list: the sum of the weights of its rules.
+fn weight_sum<'a>(rules: &'a [u64; 64], list: &'a [u8]) -> u64
+    requires { ⌜ ((s : Sheet) × WeightEntry s (now rules) (now list)) ⌝ }
+    ensures { λ r. ⌜
+        ((s : Sheet) → WeightEntry s (now (rules .entry)) (now (list .entry)) → r ≡ ruleWeight s (now (list .entry)))
+        ⌝ }
+{
+    let mut sum: u64 = 0;
+    let mut i: usize = 0;
+    while i < list.len() {
+        let r = list[i] as usize;
+        let rule = rule_at(rules, r);
+        sum += weight_of(rule);
+        i += 1;
+    }
+    sum
+}
+
+// What pricing a valid tree gives, where its total is known: the list need not be read against the onsets.
+fn figures(grammar: GrammarTable, list: &[u8], total: u64) -> Priced
+    requires { ⌜ ((s : Sheet) × (R : ℕ) × (D : ℕ) × FiguresEntry s grammar (now list) R D total) ⌝ }
+    ensures { λ r. ⌜
+        ((s : Sheet) (R D : ℕ) → FiguresEntry s grammar (now (list .entry)) R D total
+        → r ≡ pricedOf (priced (length (now (list .entry))) R D (totalOf s R D)))
+        ⌝ }
+{
+    let rules = pack_rules(grammar);
+    let weight = weight_sum(&rules, list);
+    Priced {
+        number: 0,
+        line: 0,
+        nodes: list.len(),
+        weight,
+        distance: total - (grammar.multiplier as u64) * weight,
+        total,
+    }
+}
 
 // Finds a least tree with slices of the required lengths: 11 where there is no tree, and else what pricing the tree gives.
 fn find_least(
@@ -29,7 +91,7 @@ fn find_least(
     let found = least_tree(grammar, playing, tree, work);
     match found {
         Found::NoTree => refused(11, 0),
-        Found::Tree { nodes } => pricing::price_sheet(grammar, playing, &tree[..nodes]),
+        Found::Tree { nodes, total } => figures(grammar, &tree[..nodes], total),
     }
 }
 

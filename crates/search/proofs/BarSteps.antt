@@ -18,7 +18,7 @@ use Rattle.trees.specs.Instance.{instanceOf}
 use Rattle.trees.specs.LeastTotal.{NONE, cellOf, leastTotal}
 use Rattle.trees.specs.Laws.{lawful}
 use Rattle.trees.specs.Room.{room, bars-room}
-use Rattle.trees.specs.Found.{cells-least, first-is-tree}
+use Rattle.trees.specs.Found.{cells-least, first-total-is, first-is-tree}
 use Rattle.sizes.specs.Sizes.{treeBytes}
 use Rattle.rows.specs.declared.slots.Bar.{Bar}
 use Rattle.rows.specs.Vectors.{vec}
@@ -144,7 +144,7 @@ module _ {s : Sheet} {plan us rows tree vectors roots : List ℕ} {start count :
               )
 
   pub in-bars-all : {now rows′ : List ℕ} {b carry next : ℕ} → InBars s rows′ tree now b carry next → b ≡ count
-      → FoundAs s tree now (Tree next)
+      → FoundAs s tree now (Tree next (leastTotal s))
   unfolding leastTotal bars overFrom
   in-bars-all {now} {rows′} {b} {carry} {next} p eb = (
     built .bytes,
@@ -153,6 +153,7 @@ module _ {s : Sheet} {plan us rows tree vectors roots : List ℕ} {start count :
     first-is-tree s good (h .reached) (built .bytes) (built .price) (built .first),
     built .next-is ∙ omega arith,
     built .written,
+    sym (first-total-is s good (h .reached) (built .bytes) (built .price) (built .first)),
   )
     where
       none : barsFrom s b ≡ []

@@ -1,6 +1,6 @@
 -- The steps of `parse` and `least_tree`: the table cleared, what the least total tells, and the cells of the work slice.
 use Prim.Native.Nat.{ℕ, _+_, _-_, _*_, _/_, _≤_, _<_}
-use mathlib.Core.Path.{_≡_, refl, ap, subst, _∙_}
+use mathlib.Core.Path.{_≡_, refl, sym, ap, subst, _∙_}
 use mathlib.Core.List.{List, [], _∷_, _++_}
 use native.Mathlib.Nat.{mul-le-mul}
 use native.Mathlib.Omega.{arith}
@@ -24,7 +24,7 @@ use Rattle.rows.specs.MemoLaws.{memo-clear}
 use Rattle.rows.specs.Slots.{slots, slotCell, Sound}
 use Rattle.rows.specs.OnsetLaws.{largest-le}
 use Rattle.search.specs.declared.Found.{Found}
-use Rattle.search.specs.declared.Found.the-variants.{NoTree}
+use Rattle.search.specs.declared.Found.the-variants.{NoTree, Tree}
 use Rattle.search.specs.Search.{BarsEntry, Forward, BackEntry, VectorsFrom, BarsBuildEntry, ParseEntry, FoundAs, SearchEntry}
 use Rattle.search.specs.Search.{Searched}
 use Rattle.search.proofs.EnterSteps.{product-few}
@@ -77,6 +77,10 @@ module _ {s : Sheet} {plan us rows tree : List ℕ} {start count : ℕ} (h : Par
         reached = reached;
         room = h .tree-size;
       }
+
+    -- the tree that is built has the total that was found
+    pub one-found : {after : List ℕ} {n : ℕ} → FoundAs s tree after (Tree n (leastTotal s)) → FoundAs s tree after (Tree n total)
+    one-found {after} {n} f = subst (λ (t : ℕ). FoundAs s tree after (Tree n t)) (sym (told .is)) f
 
 -- ---- a sheet
 

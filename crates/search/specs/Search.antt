@@ -13,7 +13,7 @@ use Rattle.sheet.specs.Accepted.{SheetHeld}
 use Rattle.derivations.specs.Derivation.{Item}
 use Rattle.derivations.specs.Minima.{lowest, only}
 use Rattle.derivations.specs.Table.{forward}
-use Rattle.trees.specs.ValidTrees.{row, bars}
+use Rattle.trees.specs.ValidTrees.{row, bars, totalOf}
 use Rattle.trees.specs.LeastTotal.{NONE, carries, cellOf, leastTotal}
 use Rattle.trees.specs.Found.{FirstTree}
 use Rattle.sizes.specs.Sizes.{treeBytes, workCells}
@@ -158,11 +158,13 @@ pub record BarsBuildEntry (s : Sheet) (plan units rows tree vectors roots : List
 
 -- ---- a sheet
 
--- what the search gives: no total is below the cap, and the tree is kept; or so many bytes at the tree's front are the first least tree
+-- what the search gives: no total is below the cap, and the tree is kept; or so many bytes at the tree's front are the first least tree,
+-- with its total
 abbrev pub FoundAs : Sheet → (tree after : List ℕ) → Found → Type 0
 FoundAs s tree after NoTree = (NONE ≤ leastTotal s) × (after ≡ tree)
-FoundAs s tree after (Tree n) =
+FoundAs s tree after (Tree n total) =
     (bytes : List ℕ) × (R : ℕ) × (D : ℕ) × FirstTree s bytes R D × (n ≡ length bytes) × (after ≡ over bytes tree)
+    × (total ≡ totalOf s R D)
 
 -- rows of the required number, whatever they hold, and a tree slice of the required length
 pub record ParseEntry (s : Sheet) (plan units rows tree : List ℕ) (start count : ℕ) : Type 0 where

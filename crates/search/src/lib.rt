@@ -5,7 +5,7 @@ ghost use Prim.Native.Nat.{_+_, _*_, _<_, _≤_};
 ghost use lib.ListN.{length};
 ghost use Rattle.slices.specs.Table.{Table};
 ghost use Rattle.sheet.specs.Sheet.{Sheet};
-ghost use Rattle.trees.specs.LeastTotal.{carries};
+ghost use Rattle.trees.specs.LeastTotal.{carries, leastTotal};
 ghost use Rattle.search.specs.declared.Found.the-variants.{Tree};
 ghost use Rattle.search.specs.Search.{barOf, EnterEntry, BarsEntry, PassEntry, Rooted, RootsTo, PassedBar, Forward};
 ghost use Rattle.search.specs.Search.{BeforeEntry, BeforeAs, BackEntry, VectorsFrom, BarsBuildEntry, ParseEntry, FoundAs};
@@ -32,10 +32,10 @@ use sheet::PlayingTable;
 use sheet::Units;
 use sizes::most_in_bar;
 
-// What the search gives: there is no tree, or how many bytes the tree has.
+// What the search gives: there is no tree, or how many bytes the tree has and what it totals.
 pub enum Found {
     NoTree,
-    Tree { nodes: usize },
+    Tree { nodes: usize, total: u64 },
 }
 
 // Sets the first n cells to 0.
@@ -191,7 +191,7 @@ fn build_bars<'a>(
     ensures { λ n. ⌜
         ((s : Sheet)
         → BarsBuildEntry s (now (plan .entry)) (now (units .entry)) (now (rows .entry)) (now (tree .entry)) (now (vectors .entry))
-        (now (roots .entry)) start count → FoundAs s (now (tree .entry)) (now (tree .exit)) (Tree n))
+        (now (roots .entry)) start count → FoundAs s (now (tree .entry)) (now (tree .exit)) (Tree n (leastTotal s)))
         ⌝ }
 {
     let slots = rows.len() / 4;
@@ -250,7 +250,7 @@ fn parse<'a>(
     let mut vectors = [0u64; 260];
     backward(&roots, &mut vectors, count);
     let nodes = build_bars(plan, units, rows, tree, &vectors, &roots, start, count);
-    Found::Tree { nodes }
+    Found::Tree { nodes, total }
 }
 
 // Finds the first least tree of a sheet and writes it to the front of the tree slice. The required cells of the work slice are 0 at the

@@ -1,7 +1,7 @@
--- `find_least` meets its contract: 11 where the search finds no tree, and else the price of the bytes that it wrote. Assumes nothing.
+-- `find_least` meets its contract: 11 where the search finds no tree, and else the figures of the bytes that it wrote. Assumes nothing.
 use mathlib.Core.Path.{subst}
 use Rattle.search.specs.Search.{Searched}
-use Rattle.finding.proofs.FindSteps.{nothing-found, nodes-fit, front-size, tree-found}
+use Rattle.finding.proofs.FindSteps.{nothing-found, nodes-fit, front-size, figures-entry, tree-found}
 use borrow.Author.Needs.{needs}
 use Rattle.finding.proofs.find_least.Statement.{statement}
 use Rattle.finding.proofs.find_least.Tie as tie
@@ -18,26 +18,36 @@ refused-requires c κs = search needs
 enum-known-found : tie.Need-enum-known-found
 enum-known-found c = search needs
 
-slice-reshare-prefix-price-sheet : tie.Need-slice-reshare-prefix-price-sheet
-slice-reshare-prefix-price-sheet c =
+slice-reshare-prefix-figures : tie.Need-slice-reshare-prefix-figures
+slice-reshare-prefix-figures c =
     let start = c .before .before .before .before .before .before .before .before .before .before .before .before in
     let least-tree = c .before .before .before .before .before .before .before .least-tree in
     let found = c .before .found in
     let (s, entry) = start .pre in
-    nodes-fit entry _ _ _
+    nodes-fit entry _ _ _ _
     (subst (Searched s (start .args .tree .now) _ (start .args .work .now) _) (found .given .1) (least-tree .ensures s entry))
 
-slice-aggregate-price-sheet : tie.Need-slice-aggregate-price-sheet
-slice-aggregate-price-sheet c =
+slice-aggregate-figures : tie.Need-slice-aggregate-figures
+slice-aggregate-figures c =
     let start = c .before .before .before .before .before .before .before .before .before .before .before .before .before in
     let least-tree = c .before .before .before .before .before .before .before .before .least-tree in
     let found = c .before .before .found in
     let (s, entry) = start .pre in
-    front-size entry _ _ _
+    front-size entry _ _ _ _
     (subst (Searched s (start .args .tree .now) _ (start .args .work .now) _) (found .given .1) (least-tree .ensures s entry))
 
-price-sheet-requires : tie.Need-price-sheet-requires
-price-sheet-requires c κs = search needs
+figures-requires : tie.Need-figures-requires
+figures-requires c κs =
+    let start = c .before .before .before .before .before .before .before .before .before .before .before .before .before in
+    let least-tree = c .before .before .before .before .before .before .before .before .least-tree in
+    let found = c .before .before .found in
+    let (s, entry) = start .pre in (
+      s,
+      _,
+      _,
+      figures-entry entry _ _ _ _
+          (subst (Searched s (start .args .tree .now) _ (start .args .work .now) _) (found .given .1) (least-tree .ensures s entry)),
+    )
 
 same-length : tie.Need-same-length
 same-length c = search needs
@@ -66,10 +76,10 @@ returns-2 c =
     let start = c .before .before .before .before .before .before .before .before .before .before .before .before .before .before in
     let least-tree = c .before .before .before .before .before .before .before .before .before .least-tree in
     let found = c .before .before .before .found in
-    let price-sheet = c .price-sheet in
-    λ s entry. tree-found entry _ _ _
-    (subst (Searched s (start .args .tree .now) _ (start .args .work .now) _) (found .given .1) (least-tree .ensures s entry)) _
-    (price-sheet .ensures s (entry .held))
+    let figures = c .figures in
+    λ s entry.
+    let told = subst (Searched s (start .args .tree .now) _ (start .args .work .now) _) (found .given .1) (least-tree .ensures s entry) in
+    tree-found entry _ _ _ _ told _ (figures .ensures s _ _ (figures-entry entry _ _ _ _ told))
 
 pub find-least-spec : {M : Type 1} → statement M
 find-least-spec =
@@ -79,9 +89,9 @@ find-least-spec =
     enum-told
     refused-requires
     enum-known-found
-    slice-reshare-prefix-price-sheet
-    slice-aggregate-price-sheet
-    price-sheet-requires
+    slice-reshare-prefix-figures
+    slice-aggregate-figures
+    figures-requires
     same-length
     same-length-2
     returns

@@ -3,7 +3,7 @@
 use mathlib.Core.Path.{refl}
 use native.Mathlib.Omega.{arith}
 use borrow.Author.Needs.{needs}
-use Rattle.search.proofs.SearchSteps.{bars-few, cleared-entry, none-found, back-entry, build-bars-entry}
+use Rattle.search.proofs.SearchSteps.{bars-few, cleared-entry, none-found, back-entry, build-bars-entry, one-found}
 use Rattle.search.proofs.parse.Statement.{statement}
 use Rattle.search.proofs.parse.Tie as tie
 
@@ -90,7 +90,7 @@ returns-2 c =
     λ s h.
     let told = forward .ensures s (cleared-entry h refl (clear .ensures)) (omega (arith, bars-few h)) in
     let vectors = backward .ensures s (back-entry h told (omega (arith, if1 .left)) (omega (arith, bars-few h))) in
-    build-bars .ensures s (build-bars-entry h told (omega (arith, if1 .left)) vectors)
+    one-found h told (build-bars .ensures s (build-bars-entry h told (omega (arith, if1 .left)) vectors))
 
 pub parse-spec : {M : Type 1} → statement M
 parse-spec =
