@@ -407,7 +407,7 @@ fn time_all() {
     time(&Timed::new("tune", tunes::tune(32)));
     time(&Timed::new("heaviest, halves and thirds", tunes::plain()));
     time(&Timed::new("heaviest, all divide", tunes::wide()));
-    time(&Timed::new("dense grammar, six divide by all", tunes::dense()));
+    time(&Timed::new("heaviest, six divide by all", tunes::dense()));
     println!(" Such tunes, short and long:");
     for bars in [8, 16, 32, 64] {
         time(&Timed::new("tune", tunes::tune(bars)));

@@ -114,8 +114,8 @@ pub fn wide() -> Vec<u8> {
     heaviest(16, |head| vec![2 + head % 7, 2 + (head + 3) % 7])
 }
 
-/// A dense grammar: six nonterminals in parts of every number, so that all 84
-/// lengths are met by each.
+/// Six nonterminals in parts of every number, so that all 84 lengths are met by
+/// each.
 pub fn dense() -> Vec<u8> {
     heaviest(6, |_| (2..=8).collect())
 }
