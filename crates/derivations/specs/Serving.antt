@@ -53,6 +53,15 @@ first-served {P} {a} {gs} {v} {w} {c} {goal} {bs} {p} serves f =
       | inr (i, _) ↦ absurd (omega (arith, agrees, no-more))
     ]
 
+-- a vector that is raised by the same everywhere changes no first least list
+pub first-raised : {P : Instance} {a : ℕ} {gs : List Item} {v : ℕ → ℕ} {c : ℕ} {bs : List ℕ} {p : Price} (k : ℕ)
+    → First P a gs v c bs p → First P a gs (λ m. v m + k) c bs p
+first-raised k f = record {
+  reads = f .reads;
+  least = λ xs q h. omega (arith, f .least xs q h);
+  first = λ xs q h low. f .first xs q h (omega arith);
+}
+
 module _ {P : Instance} {C : ℕ} (L : Lawful P C) (a cap : ℕ) (cell : Cells) (exact : (g : Item) → Exact P a cap C cell g) where
   -- what an item's list comes to is at least the cell of the carry state behind it
   pub cell-below : (g : Item) (c : ℕ) (bs : List ℕ) (p : Price) → c < C → derive P bs (g ∷ []) c ≡ some p

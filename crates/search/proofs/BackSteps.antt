@@ -19,12 +19,12 @@ use Rattle.search.proofs.PassSteps.{length-stored, root-cells-low, tota
 
 -- ---- `before`
 
-module _ {s : Sheet} {roots : List ℕ} {b : ℕ} {v : List ℕ} (h : BeforeEntry s roots b v) where
+module _ {s : Sheet} {roots : List ℕ} {e b : ℕ} {v : List ℕ} (h : BeforeEntry s roots e b v) where
   pub before-few : b < 64
-  before-few = omega (arith, h .bar-in, h .few)
+  before-few = omega (arith, h .bar-in, h .end-in, h .few)
 
   pub before-room : 16 * b + 16 ≤ length roots
-  before-room = omega (arith, h .bar-in, h .roots-are .size)
+  before-room = omega (arith, h .bar-in, h .end-in, h .roots-are .size)
 
   module _ (c : ℕ) (hc : c < carries) (i : ℕ) (ei : i ≡ 4 * (4 * b + c)) {y t : List ℕ} (ey : y ≡ rowAt roots i) (et : t ≡ totalsOf y) where
     abbrev row : List ℕ
@@ -60,9 +60,9 @@ module _ {s : Sheet} {roots : List ℕ} {b : ℕ} {v : List ℕ} (h : BeforeEntr
 -- ---- `backward`
 
 -- v is the vector before the bars from b on, and so are those of the table
-pub record Backward (s : Sheet) (vectors : List ℕ) (b : ℕ) (v : List ℕ) : Type 0 where
-  pub vectors-are : VectorsFrom s vectors b
-  pub suffix : Suffix s b v
+pub record Backward (s : Sheet) (vectors : List ℕ) (e b : ℕ) (v : List ℕ) : Type 0 where
+  pub vectors-are : VectorsFrom s vectors e b
+  pub suffix : Suffix s e b v
 
 -- four numbers are the vector of their places
 vec-of : (v : List ℕ) → length v ≡ 4 → v ≡ vec (λ x. getD v x 0)
@@ -74,47 +74,48 @@ vec-of (a ∷ b ∷ c ∷ d ∷ []) e = refl
 vec-of (a ∷ b ∷ c ∷ d ∷ x ∷ v) e = let none : ⊥ = omega arith in absurd none
 
 -- what is stored is loaded again
-stored-suffix : {s : Sheet} {b : ℕ} {v : List ℕ} (vectors : List ℕ) → 4 * b + 4 ≤ length vectors → Suffix s b v
+stored-suffix : {s : Sheet} {e b : ℕ} {v : List ℕ} (vectors : List ℕ) → 4 * b + 4 ≤ length vectors → Suffix s e b v
     → rowAt (stored vectors (4 * b) v 0) (4 * b) ≡ v
 stored-suffix {b = b} {v} vectors room p =
     let is = vec-of v (p .four) in
     stored-own vectors (4 * b) v 0 room (λ x. getD v x 0) is (omega (arith, p .low 0)) ∙ sym is
 
-module _ {s : Sheet} {roots vectors₀ : List ℕ} {count : ℕ} (e : BackEntry s roots vectors₀ count) where
+module _ {s : Sheet} {roots vectors₀ : List ℕ} {from e : ℕ} (h : BackEntry s roots vectors₀ from e) where
   -- for another table that is as long
-  pub back-again : (vectors : List ℕ) → length vectors ≡ length vectors₀ → BackEntry s roots vectors count
+  pub back-again : (vectors : List ℕ) → length vectors ≡ length vectors₀ → BackEntry s roots vectors from e
   back-again vectors same = record {
-    good = e .good;
-    count-is = e .count-is;
-    few = e .few;
-    roots-are = e .roots-are;
-    room = omega (arith, same, e .room);
-    reached = e .reached;
+    good = h .good;
+    rising = h .rising;
+    end-in = h .end-in;
+    few = h .few;
+    roots-are = h .roots-are;
+    room = omega (arith, same, h .room);
+    reached = h .reached;
   }
 
-  pub back-stored : {after : List ℕ} (v : List ℕ) → after ≡ stored vectors₀ (4 * count) v 0 → length after ≡ length vectors₀
-  back-stored v ea = length-stored vectors₀ v (4 * count) (omega (arith, e .room)) ea
+  pub back-stored : {after : List ℕ} (v : List ℕ) → after ≡ stored vectors₀ (4 * e) v 0 → length after ≡ length vectors₀
+  back-stored v ea = length-stored vectors₀ v (4 * e) (omega (arith, h .room)) ea
 
-  pub backward-none : {after v : List ℕ} → v ≡ vec (only NONE 0) → after ≡ stored vectors₀ (4 * count) v 0 → Backward s after count v
+  pub backward-none : {after v : List ℕ} → v ≡ vec (only NONE 0) → after ≡ stored vectors₀ (4 * e) v 0 → Backward s after e e v
   backward-none {after} {v} ev ea =
       rw ea (record {
         vectors-are = record {
-          size = omega (arith, e .count-is, e .room, stored-size vectors₀ (4 * count) v 0 room);
-          each = λ i lo hi. last i (omega (arith, e .count-is));
+          size = omega (arith, h .room, stored-size vectors₀ (4 * e) v 0 room);
+          each = λ i lo hi. last i (omega arith);
         };
         suffix = whole;
       })
     where
-      room : 4 * count + 4 ≤ length vectors₀
-      room = omega (arith, e .room)
+      room : 4 * e + 4 ≤ length vectors₀
+      room = omega (arith, h .room)
 
-      whole : Suffix s count v
-      whole = subst (λ (n : ℕ). Suffix s n v) (sym (e .count-is)) (suffix-last s (e .good) v ev)
+      whole : Suffix s e e v
+      whole = suffix-last s e v ev
 
-      last : (i : ℕ) → i ≡ count → Suffix s i (rowAt (stored vectors₀ (4 * count) v 0) (4 * i))
-      last i ei = rw ei (subst (Suffix s count) (sym (stored-suffix vectors₀ room whole)) whole)
+      last : (i : ℕ) → i ≡ e → Suffix s e i (rowAt (stored vectors₀ (4 * e) v 0) (4 * i))
+      last i ei = rw ei (subst (Suffix s e e) (sym (stored-suffix vectors₀ room whole)) whole)
 
-  module _ {vectors : List ℕ} {n : ℕ} {v : List ℕ} (some : 0 < n) (most : n ≤ count) (p : Backward s vectors n v) where
+  module _ {vectors : List ℕ} {n : ℕ} {v : List ℕ} (more : from < n) (most : n ≤ e) (p : Backward s vectors e n v) where
     -- the bar before
     abbrev b : ℕ
     b = n - 1
@@ -122,21 +123,22 @@ module _ {s : Sheet} {roots vectors₀ : List ℕ} {count : ℕ} (e : BackEntry 
     next : b + 1 ≡ n
     next = omega arith
 
-    below : b < s .playing .bars
-    below = omega (arith, e .count-is)
+    below : b < e
+    below = omega arith
 
-    pub backward-entry : BeforeEntry s roots b v
+    pub backward-entry : BeforeEntry s roots e b v
     backward-entry = record {
-      roots-are = e .roots-are;
+      roots-are = h .roots-are;
       bar-in = below;
-      few = omega (arith, e .count-is, e .few);
+      end-in = h .end-in;
+      few = h .few;
       low = p .suffix .low;
     }
 
     pub backward-room : 4 * b + 4 ≤ length vectors
     backward-room = omega (arith, p .vectors-are .size, below)
 
-    pub backward-more : {after w : List ℕ} → BeforeAs roots b v w → after ≡ stored vectors (4 * b) w 0 → Backward s after b w
+    pub backward-more : {after w : List ℕ} → BeforeAs roots b v w → after ≡ stored vectors (4 * b) w 0 → Backward s after e b w
     backward-more {after} {w} told ea =
         rw ea (record {
           vectors-are = record {
@@ -146,15 +148,15 @@ module _ {s : Sheet} {roots vectors₀ : List ℕ} {count : ℕ} (e : BackEntry 
           suffix = whole;
         })
       where
-        whole : Suffix s b w
+        whole : Suffix s e b w
         whole =
-            suffix-more s (e .good) (e .reached) b below {v = v} (subst (λ (i : ℕ). Suffix s i v) (sym next) (p .suffix))
+            suffix-more s e (h .good) (h .reached) b below {v = v} (subst (λ (i : ℕ). Suffix s e i v) (sym next) (p .suffix))
             (λ c. rowAt roots (4 * (4 * b + c)))
-            (λ c hc. e .roots-are .each b c below hc)
+            (λ c hc. h .roots-are .each b c below hc)
             (told .four) (told .is) (told .low)
 
-        each : (i : ℕ) → b ≤ i → i ≤ s .playing .bars → Suffix s i (rowAt (stored vectors (4 * b) w 0) (4 * i))
+        each : (i : ℕ) → b ≤ i → i ≤ e → Suffix s e i (rowAt (stored vectors (4 * b) w 0) (4 * i))
         each i lo hi = elim (ℕ-discrete i b) [
-          | yes z ↦ rw z (subst (Suffix s b) (sym (stored-suffix vectors backward-room whole)) whole)
-          | no z ↦ subst (Suffix s i) (sym (kept-row vectors b w 0 backward-room i z)) (p .vectors-are .each i (omega arith) hi)
+          | yes z ↦ rw z (subst (Suffix s e b) (sym (stored-suffix vectors backward-room whole)) whole)
+          | no z ↦ subst (Suffix s e i) (sym (kept-row vectors b w 0 backward-room i z)) (p .vectors-are .each i (omega arith) hi)
         ]

@@ -1,11 +1,11 @@
 -- The steps of `build_bars`: the tree from the first bar to the last.
 use Prim.Native.Nat.{ℕ, _+_, _*_, _≤_, _<_}
-use mathlib.Core.Path.{_≡_, refl, sym, ap, subst, _∙_}
+use mathlib.Core.Path.{_≡_, sym, ap, subst, _∙_}
 use mathlib.Core.List.{List, [], _∷_}
 use mathlib.Core.Logic.{inl, inr}
 use native.Mathlib.Omega.{arith}
 use lib.ListN.{length}
-use Rattle.slices.specs.Over.{overFrom, length-over-from}
+use Rattle.slices.specs.Over.{length-over-from}
 use Rattle.sheet.specs.Sheet.{Sheet}
 use Rattle.sheet.specs.Good.{GoodRules}
 use Rattle.sheet.specs.Held.{units}
@@ -13,13 +13,11 @@ use Rattle.derivations.specs.Derivation.{Item}
 use Rattle.derivations.specs.Minima.{only}
 use Rattle.derivations.specs.First.{First}
 use Rattle.derivations.specs.Serving.{Serves, first-served, cell-below}
-use Rattle.trees.specs.ValidTrees.{bars}
 use Rattle.trees.specs.Instance.{instanceOf}
-use Rattle.trees.specs.LeastTotal.{NONE, cellOf, leastTotal}
+use Rattle.trees.specs.LeastTotal.{NONE, cellOf}
 use Rattle.trees.specs.Laws.{lawful}
-use Rattle.trees.specs.Room.{room, bars-room}
-use Rattle.trees.specs.Found.{cells-least, first-total-is, first-is-tree}
-use Rattle.sizes.specs.Sizes.{treeBytes}
+use Rattle.trees.specs.Room.{room}
+use Rattle.trees.specs.Found.{cells-least}
 use Rattle.rows.specs.declared.slots.Bar.{Bar}
 use Rattle.rows.specs.Vectors.{vec}
 use Rattle.rows.specs.Memo.{rowAt}
@@ -27,34 +25,33 @@ use Rattle.rows.specs.PackedLaws.{packedCell}
 use Rattle.rows.specs.Slots.{itemAt, Sound}
 use Rattle.building.specs.declared.Built.{Built}
 use Rattle.building.specs.Rebuilding.{at, behind, BuiltAs, BuildEntry, Partway}
-use Rattle.building.specs.RebuildLaws.{partway-none, partway-next, partway-done}
-use Rattle.search.specs.declared.Found.the-variants.{Tree}
-use Rattle.search.specs.Search.{barItem, barsFrom, behindBars, barOf, RootRow, OnPath, Suffix, BarsBuildEntry, FoundAs}
-use Rattle.search.specs.BarLaws.{bar-next, bars-none, total-first, path-start, path-busy, path-next, serves-bar}
+use Rattle.building.specs.RebuildLaws.{partway-next}
+use Rattle.search.specs.Search.{barItem, barsTo, barsFrom, behindBars, barOf, RootRow, OnPath, Suffix, BarsBuildEntry}
+use Rattle.search.specs.Search.{SettledAs}
+use Rattle.search.specs.BarLaws.{bar-next, path-shut, path-own, path-next, serves-bar}
 use Rattle.search.specs.BarLaws.{path-reached}
+use Rattle.search.specs.SettleLaws.{partway-settled, settled-built}
 use Rattle.search.proofs.EnterSteps.{bar-item, bar-stands}
 
--- b bars are built, and some least tree passes the carry state behind them
-pub record InBars (s : Sheet) (rows tree now : List ℕ) (b carry next : ℕ) : Type 0 where
-  pub partway : Partway s tree now (barsFrom s 0) (barsFrom s b) (only NONE 0) 0 0 carry next
-  pub on-path : OnPath s b carry
+-- b bars are built, and some least list passes the carry state behind them
+pub record InBars (s : Sheet) (rows tree now : List ℕ) (e b carry next : ℕ) : Type 0 where
+  pub partway : Partway s tree now (barsTo s e) (barsFrom s e b) (only NONE 0) 0 0 carry next
+  pub on-path : OnPath s e b carry
   pub sound : Sound s rows
 
-module _ {s : Sheet} {plan us rows tree vectors roots : List ℕ} {start count : ℕ}
-    (h : BarsBuildEntry s plan us rows tree vectors roots start count) where
+module _ {s : Sheet} {plan us rows tree vectors roots : List ℕ} {start from e n : ℕ}
+    (h : BarsBuildEntry s plan us rows tree vectors roots start from e n) where
   abbrev good : GoodRules (s .grammar)
   good = h .entry .prepared .good
 
-  pub in-bars-none : InBars s rows tree tree 0 0 0
-  unfolding bars treeBytes
+  pub in-bars-none : InBars s rows tree tree e from 0 n
   in-bars-none = record {
-    partway = partway-none s good tree (barsFrom s 0) (only NONE 0) 0 0 (omega arith) (omega (arith, total-first s, h .reached))
-        (omega (arith, bars-room s, h .room));
-    on-path = path-start s good;
+    partway = partway-settled s good e (h .reached) from (h .rising) (h .shut) (h .settled) (h .end-in);
+    on-path = path-shut s e good (h .reached) from (h .rising) (h .shut);
     sound = h .entry .sound;
   }
 
-  module _ {now rows′ : List ℕ} {b carry next : ℕ} (p : InBars s rows′ tree now b carry next) (hb : b < count) where
+  module _ {now rows′ : List ℕ} {b carry next : ℕ} (p : InBars s rows′ tree now e b carry next) (lo : from ≤ b) (hb : b < e) where
     abbrev g : Item
     g = barItem s b
 
@@ -62,36 +59,36 @@ module _ {s : Sheet} {plan us rows tree vectors roots : List ℕ} {start count :
     bar-carry = p .partway .few
 
     below : b < s .playing .bars
-    below = omega (arith, h .entry .count-is)
+    below = omega (arith, h .end-in)
 
     pub root-room : 16 * b + 4 * carry + 4 ≤ length roots
     root-room = omega (arith, h .roots-are .size, below, bar-carry)
 
     pub vector-room : 4 * (b + 1) + 4 ≤ length vectors
-    vector-room = omega (arith, h .vectors-are .size, below)
+    vector-room = omega (arith, h .vectors-are .size)
 
-    on : Partway s tree now (barsFrom s 0) (g ∷ barsFrom s (b + 1)) (only NONE 0) 0 0 carry next
+    on : Partway s tree now (barsTo s e) (g ∷ barsFrom s e (b + 1)) (only NONE 0) 0 0 carry next
     on =
-        subst (λ (gs : List Item). Partway s tree now (barsFrom s 0) gs (only NONE 0) 0 0 carry next) (bar-next s b below)
+        subst (λ (gs : List Item). Partway s tree now (barsTo s e) gs (only NONE 0) 0 0 carry next) (bar-next s e b hb)
         (p .partway)
 
-    -- the bar's row is its own, since no least tree passes an idle carry state
+    -- the bar's row is its own, since no least list passes an idle carry state
     row-own : (y : List ℕ) → RootRow s b carry y → y ≡ vec (packedCell s g carry)
-    row-own y (inl e) = e
-    row-own y (inr (idle, _)) = absurd (path-busy s good (h .reached) b below carry bar-carry (p .on-path) idle)
+    row-own y (inl z) = z
+    row-own y (inr (idle, _)) = absurd (path-own s e good (h .reached) b hb carry bar-carry (p .on-path) idle)
 
     module _ {y x : List ℕ} (ey : y ≡ rowAt roots (16 * b + 4 * carry)) (ex : x ≡ rowAt vectors (4 * (b + 1))) where
-      suffix : Suffix s (b + 1) x
-      suffix = rw ex (h .vectors-are .each (b + 1) (omega arith) (omega (arith, below)))
+      suffix : Suffix s e (b + 1) x
+      suffix = rw ex (h .vectors-are .each (b + 1) (omega arith) (omega arith))
 
       row-is : y ≡ vec (packedCell s g carry)
       row-is =
           let same : 16 * b + 4 * carry ≡ 4 * (4 * b + carry) = omega arith in
-          row-own y (subst (RootRow s b carry) (sym (ey ∙ ap (rowAt roots) same)) (h .roots-are .each b carry below bar-carry))
+          row-own y (subst (RootRow s b carry) (sym (ey ∙ ap (rowAt roots) same)) (h .roots-are .each b carry hb bar-carry))
 
       reached : behind s (g ∷ []) (at x) carry < NONE
       reached =
-          omega (arith, path-reached s good (h .reached) b below suffix carry bar-carry (p .on-path), p .on-path, h .reached)
+          omega (arith, path-reached s e good (h .reached) b hb suffix carry bar-carry (p .on-path), p .on-path, h .reached)
 
       pub bar-build : {bar : Bar} → bar ≡ barOf s b
           → BuildEntry s plan us rows′ now bar start 0 (units (20160 * b)) (bar .first) carry y x next
@@ -113,16 +110,16 @@ module _ {s : Sheet} {plan us rows tree vectors roots : List ℕ} {start count :
       abbrev a : ℕ
       a = s .grammar .multiplier
 
-      serves : Serves (instanceOf s) a (g ∷ []) (behindBars s (b + 1)) (at x) carry (behindBars s b carry)
-      serves = serves-bar s good (h .reached) b below suffix carry bar-carry (p .on-path)
+      serves : Serves (instanceOf s) a (g ∷ []) (behindBars s e (b + 1)) (at x) carry (behindBars s e b carry)
+      serves = serves-bar s e good (h .reached) b hb suffix carry bar-carry (p .on-path)
 
       pub in-bars-more : {rows″ then : List ℕ} {built : Built}
           → BuiltAs s rows″ now then (itemAt s start 0 (units (20160 * b)) ∷ []) (at x) carry next built
-          → InBars s rows″ tree then (b + 1) (built .carry) (built .to)
+          → InBars s rows″ tree then e (b + 1) (built .carry) (built .to)
       in-bars-more {rows″} {then} {built} told = record {
-        partway = partway-next s good rows″ tree now then (barsFrom s 0) g (barsFrom s (b + 1)) (only NONE 0) 0 0 carry next x
-            (behindBars s b carry) built on serves made;
-        on-path = rw (made .carry-is) (path-next s good (h .reached) b below carry (made .price .carry) bar-carry (p .on-path) onward);
+        partway = partway-next s good rows″ tree now then (barsTo s e) g (barsFrom s e (b + 1)) (only NONE 0) 0 0 carry next x
+            (behindBars s e b carry) built on serves made;
+        on-path = rw (made .carry-is) (path-next s e good (h .reached) b hb carry (made .price .carry) bar-carry (p .on-path) onward);
         sound = made .sound;
       }
         where
@@ -130,36 +127,24 @@ module _ {s : Sheet} {plan us rows tree vectors roots : List ℕ} {start count :
           made =
               subst (λ (i : Item). BuiltAs s rows″ now then (i ∷ []) (at x) carry next built) (bar-item s (h .entry .start-is) b) told
 
-          first : First (instanceOf s) a (g ∷ []) (behindBars s (b + 1)) carry (made .bytes) (made .price)
+          first : First (instanceOf s) a (g ∷ []) (behindBars s e (b + 1)) carry (made .bytes) (made .price)
           first = first-served serves (made .first)
 
-          onward : cellOf s g carry (made .price .carry) + behindBars s (b + 1) (made .price .carry) ≤ behindBars s b carry
+          onward : cellOf s g carry (made .price .carry) + behindBars s e (b + 1) (made .price .carry) ≤ behindBars s e b carry
           onward =
-              let (xs, q, reads, e) = serves .reached in
+              let (xs, q, reads, z) = serves .reached in
               omega (
                 arith,
                 first .least xs q reads,
-                e,
+                z,
                 cell-below (lawful s) a NONE (cellOf s) (cells-least s good) g carry (made .bytes) (made .price) bar-carry (first .reads),
               )
 
-  pub in-bars-all : {now rows′ : List ℕ} {b carry next : ℕ} → InBars s rows′ tree now b carry next → b ≡ count
-      → FoundAs s tree now (Tree next (leastTotal s))
-  unfolding leastTotal bars overFrom
-  in-bars-all {now} {rows′} {b} {carry} {next} p eb = (
-    built .bytes,
-    built .price .weight,
-    built .price .distance,
-    first-is-tree s good (h .reached) (built .bytes) (built .price) (built .first),
-    built .next-is ∙ omega arith,
-    built .written,
-    sym (first-total-is s good (h .reached) (built .bytes) (built .price) (built .first)),
-  )
-    where
-      none : barsFrom s b ≡ []
-      none = ap (barsFrom s) (eb ∙ h .entry .count-is) ∙ bars-none s
-
-      built : BuiltAs s rows′ tree now (barsFrom s 0) (only NONE 0) 0 0 (record { to = next; carry = carry })
-      built =
-          partway-done s good rows′ tree now (barsFrom s 0) (only NONE 0) 0 0 carry next _ (p .sound)
-          (subst (λ (gs : List Item). Partway s tree now (barsFrom s 0) gs (only NONE 0) 0 0 carry next) none (p .partway)) refl refl
+  pub in-bars-all : {now rows′ : List ℕ} {b carry next : ℕ} → InBars s rows′ tree now e b carry next → b ≡ e
+      → SettledAs s rows′ now e next
+  in-bars-all {now} {rows′} {b} {carry} {next} p eb = record {
+    settled = settled-built s good e (h .reached) (p .sound)
+        (subst (λ (i : ℕ). Partway s tree now (barsTo s e) (barsFrom s e i) (only NONE 0) 0 0 carry next) eb (p .partway))
+        (h .settled .room);
+    sound = p .sound;
+  }

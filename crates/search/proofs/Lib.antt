@@ -2,4 +2,5 @@ mod EnterSteps
 mod PassSteps
 mod BackSteps
 mod BarSteps
+mod SettleSteps
 mod SearchSteps

@@ -20,8 +20,8 @@ use Rattle.rows.specs.Slots.{Sound}
 use Rattle.rows.specs.Rows.{Taken}
 use Rattle.rows.specs.IdleLaws.{taken-skip}
 use Rattle.rows.specs.TurnLaws.{taken-none, taken-more}
-use Rattle.search.specs.Search.{barItem, beforeBars, barOf, BarsEntry, PassEntry, RootRow, Rooted, RootsTo, PassedBar, Forward}
-use Rattle.search.specs.BarLaws.{before-none, before-more, total-last}
+use Rattle.search.specs.Search.{barItem, beforeBars, barOf, BarsEntry, PassEntry, RootRow, Rooted, RootsTo, PassedBar}
+use Rattle.search.specs.BarLaws.{before-none, before-more}
 use Rattle.search.proofs.EnterSteps.{at-vec, idle-same}
 
 -- a store keeps the number of cells
@@ -170,14 +170,6 @@ module _ {s : Sheet} {plan us rows : List ℕ} {start count : ℕ} (e : BarsEntr
           },
           p .roots-are,
         )
-
-    pub forward-all : b ≡ count → Forward s now roots (getD v 0 0)
-    forward-all eb = record {
-      roots-are = subst (λ (n : ℕ). RootsTo s roots n 0) (eb ∙ e .count-is) (p .roots-are);
-      is = at-vec (beforeBars s b) (p .is) 0 (omega arith) ∙ ap (λ (n : ℕ). beforeBars s n 0) (eb ∙ e .count-is)
-          ∙ total-last s (e .prepared .good);
-      sound = p .sound;
-    }
 
 pub forward-more : {s : Sheet} {now roots : List ℕ} {b : ℕ} {bar : Bar} {w : List ℕ} → bar ≡ barOf s b
     → PassedBar s now roots (bar .number) w → Forwarded s now roots (b + 1) w

@@ -15,72 +15,82 @@ use Rattle.sheet.specs.declared.table.PlayingTable.{PlayingTable}
 use Rattle.sheet.specs.Sheet.{Onset, Grammar, Playing, Sheet, barUnits, inBar}
 use Rattle.sheet.specs.Good.{GoodRules, GoodOnsets}
 use Rattle.sheet.specs.Held.{grammarTable, playingTable}
-use Rattle.trees.specs.LeastTotal.{NONE, leastTotal}
-use Rattle.sizes.specs.Sizes.{largest, mostInBar, workCells}
+use Rattle.derivations.specs.Bound.{nodes-bound}
+use Rattle.trees.specs.ValidTrees.{bars}
+use Rattle.trees.specs.Instance.{instanceOf}
+use Rattle.trees.specs.LeastTotal.{leastTotal}
+use Rattle.trees.specs.Room.{room, room-pays, bars-room}
+use Rattle.trees.specs.Found.{first-is-tree, first-total-is}
+use Rattle.sizes.specs.Sizes.{largest, mostInBar, treeBytes, workCells}
 use Rattle.sizes.specs.SizesLaws.{length-count-least, length-count-most, most-in-bar-most}
 use Rattle.expansions.specs.Tables.{unitCells}
 use Rattle.plan.specs.Plan.{lengths, Prepared, nonterminalsCell, lengthsCell}
 use Rattle.rows.specs.MemoLaws.{memo-clear}
-use Rattle.rows.specs.Slots.{slots, slotCell, Sound}
+use Rattle.rows.specs.Slots.{slots, slotCell}
 use Rattle.rows.specs.OnsetLaws.{largest-le}
 use Rattle.search.specs.declared.Found.{Found}
-use Rattle.search.specs.declared.Found.the-variants.{NoTree, Tree}
-use Rattle.search.specs.Search.{BarsEntry, Forward, BackEntry, VectorsFrom, BarsBuildEntry, ParseEntry, FoundAs, SearchEntry}
-use Rattle.search.specs.Search.{Searched}
+use Rattle.search.specs.declared.Found.the-variants.{Tree}
+use Rattle.search.specs.Search.{barsTo, ForwardEntry, Settled, FoundIn, ParseEntry, FoundAs, SearchEntry, Searched}
 use Rattle.search.proofs.EnterSteps.{product-few}
 
 module _ {s : Sheet} {plan us rows tree : List ℕ} {start count : ℕ} (h : ParseEntry s plan us rows tree start count) where
   pub bars-few : count ≤ 64
   bars-few = omega (arith, h .count-is, h .onsets .good .sixty-four)
 
-  entered : {now : List ℕ} → Sound s now → BarsEntry s plan us now start count
-  entered sound =
-      record {
-        prepared = h .prepared;
-        onsets = h .onsets;
-        start-is = h .start-is;
-        count-is = h .count-is;
-        some-slot = h .some-slot;
-        sound = sound;
-      }
+  -- no sheet needs a longer tree
+  tree-most : treeBytes s ≤ 41024
+  unfolding treeBytes
+  tree-most = omega (arith, h .onsets .good .sixty-four, h .onsets .good .most)
 
   -- a table of zeros claims nothing
-  pub cleared-entry : {now : List ℕ} {n : ℕ} → n ≡ length rows → Table (λ _. 0) rows now n → BarsEntry s plan us now start count
-  cleared-entry {now} en t =
-      entered (memo-clear (slotCell s) now (slots s) (t .size ∙ h .rows-size) (λ i hi. t .each i (omega (arith, h .rows-size))))
+  pub parse-forward : {now bytes roots vectors : List ℕ} {n : ℕ} → n ≡ length rows → Table (λ _. 0) rows now n → length roots ≡ 1024
+      → length vectors ≡ 260 → length bytes ≡ 41024 → ForwardEntry s plan us now bytes roots vectors start count
+  parse-forward {now} en t er ev eb = record {
+    entry = record {
+      prepared = h .prepared;
+      onsets = h .onsets;
+      start-is = h .start-is;
+      count-is = h .count-is;
+      some-slot = h .some-slot;
+      sound = memo-clear (slotCell s) now (slots s) (t .size ∙ h .rows-size) (λ i hi. t .each i (omega (arith, h .rows-size)));
+    };
+    roots-size = omega (arith, er, bars-few);
+    vectors-size = omega (arith, ev, bars-few);
+    room = omega (arith, eb, tree-most);
+  }
 
-  module _ {now roots : List ℕ} {total : ℕ} (told : Forward s now roots total) where
-    -- no total is below the cap
-    pub none-found : NONE ≤ total → FoundAs s tree tree NoTree
-    none-found k = (omega (arith, told .is), refl)
+  -- the bytes of a tree that is found fit both slices
+  module _ {bytes : List ℕ} {n total : ℕ} (f : FoundIn s bytes (Tree n total)) where
+    settled : Settled s bytes (s .playing .bars) n
+    settled = f .0
 
-    -- one is
-    module _ (k : total < NONE) where
-      reached : leastTotal s < NONE
-      reached = omega (arith, told .is)
+    pub found-most : n ≤ treeBytes s
+    unfolding bars treeBytes
+    found-most =
+        omega (
+          arith,
+          settled .count-is,
+          nodes-bound (instanceOf s) (room s) (room-pays s (h .prepared .good)) (settled .bytes) (barsTo s (s .playing .bars)) 0
+              (settled .price)
+              (settled .first .reads),
+          bars-room s,
+        )
 
-      pub back-entry : {vectors : List ℕ} → 4 * (count + 1) ≤ length vectors → BackEntry s roots vectors count
-      back-entry room = record {
-        good = h .prepared .good;
-        count-is = h .count-is;
-        few = bars-few;
-        roots-are = told .roots-are;
-        room = room;
-        reached = reached;
-      }
+    pub found-fits : (n ≤ length bytes) × (n ≤ length tree)
+    found-fits = (omega (arith, found-most, settled .room), omega (arith, found-most, h .tree-size))
 
-      pub build-bars-entry : {vectors : List ℕ} → VectorsFrom s vectors 0 → BarsBuildEntry s plan us now tree vectors roots start count
-      build-bars-entry are = record {
-        entry = entered (told .sound);
-        vectors-are = are;
-        roots-are = told .roots-are;
-        reached = reached;
-        room = h .tree-size;
-      }
-
-    -- the tree that is built has the total that was found
-    pub one-found : {after : List ℕ} {n : ℕ} → FoundAs s tree after (Tree n (leastTotal s)) → FoundAs s tree after (Tree n total)
-    one-found {after} {n} f = subst (λ (t : ℕ). FoundAs s tree after (Tree n t)) (sym (told .is)) f
+    -- they are copied
+    pub found-copied : {after : List ℕ} → after ≡ over (take n bytes) tree → FoundAs s tree after (Tree n total)
+    unfolding leastTotal bars
+    found-copied {after} e = (
+      settled .bytes,
+      settled .price .weight,
+      settled .price .distance,
+      first-is-tree s (h .prepared .good) (f .2) (settled .bytes) (settled .price) (settled .first),
+      settled .count-is,
+      e ∙ ap (λ (xs : List ℕ). over xs tree) (ap (λ (k : ℕ). take k bytes) (settled .count-is) ∙ settled .front),
+      f .1 ∙ sym (first-total-is s (h .prepared .good) (f .2) (settled .bytes) (settled .price) (settled .first)),
+    )
 
 -- ---- a sheet
 

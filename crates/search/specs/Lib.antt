@@ -1,2 +1,3 @@
 pub mod Search
 pub mod BarLaws
+pub mod SettleLaws

@@ -3,17 +3,19 @@ use Prim.Native.Nat.{ℕ, _+_, _*_, _/_, _≤_, _<_}
 use mathlib.Core.Path.{_≡_}
 use mathlib.Core.List.{List}
 use mathlib.Core.Logic.{_⊎_}
-use lib.ListN.{length, drop, replicate, getD}
+use lib.ListN.{length, take, drop, replicate, getD}
 use Rattle.slices.specs.Over.{over}
 use Rattle.sheet.specs.declared.table.GrammarTable.{GrammarTable}
 use Rattle.sheet.specs.declared.table.PlayingTable.{PlayingTable}
 use Rattle.sheet.specs.Sheet.{Sheet, barUnits}
 use Rattle.sheet.specs.Good.{GoodRules}
 use Rattle.sheet.specs.Accepted.{SheetHeld}
-use Rattle.derivations.specs.Derivation.{Item}
+use Rattle.derivations.specs.Derivation.{Item, Price}
 use Rattle.derivations.specs.Minima.{lowest, only}
+use Rattle.derivations.specs.First.{First}
 use Rattle.derivations.specs.Table.{forward}
-use Rattle.trees.specs.ValidTrees.{row, bars, totalOf}
+use Rattle.trees.specs.ValidTrees.{row, totalOf}
+use Rattle.trees.specs.Instance.{instanceOf}
 use Rattle.trees.specs.LeastTotal.{NONE, carries, cellOf, leastTotal}
 use Rattle.trees.specs.Found.{FirstTree}
 use Rattle.sizes.specs.Sizes.{treeBytes, workCells}
@@ -36,16 +38,17 @@ use Rattle.building.specs.Rebuilding.{behind}
 abbrev pub barItem : Sheet → ℕ → Item
 barItem s b = record { nonterminal = s .grammar .start; left = b * barUnits; len = barUnits }
 
--- the bars from bar b on, and those before it
-abbrev pub barsFrom : Sheet → ℕ → List Item
-barsFrom s b = row (0 + b * barUnits) barUnits (drop b (replicate (s .playing .bars) (s .grammar .start)))
-
+-- the bars before bar b, and those from bar b on that are before bar e
 abbrev pub barsTo : Sheet → ℕ → List Item
 barsTo s b = row 0 barUnits (replicate b (s .grammar .start))
 
--- what the bars from bar b on total, by the carry state that they are entered with: nothing is carried out of the last
-abbrev pub behindBars : Sheet → ℕ → ℕ → ℕ
-behindBars s b = behind s (barsFrom s b) (only NONE 0)
+abbrev pub barsFrom : Sheet → (e b : ℕ) → List Item
+barsFrom s e b = row (0 + b * barUnits) barUnits (drop b (replicate e (s .grammar .start)))
+
+-- what the bars from bar b on that are before bar e total, by the carry state that they are entered with, where nothing is carried on to
+-- bar e
+abbrev pub behindBars : Sheet → (e b : ℕ) → ℕ → ℕ
+behindBars s e b = behind s (barsFrom s e b) (only NONE 0)
 
 -- what the bars before bar b total, by the carry state behind them: nothing is carried into the first
 abbrev pub beforeBars : Sheet → ℕ → ℕ → ℕ
@@ -104,32 +107,37 @@ pub record PassedBar (s : Sheet) (rows roots : List ℕ) (b : ℕ) (v : List ℕ
   pub is : v ≡ vec (beforeBars s (b + 1))
   pub sound : Sound s rows
 
--- all rows are stored, and the least total is known
-pub record Forward (s : Sheet) (rows roots : List ℕ) (total : ℕ) : Type 0 where
-  pub roots-are : RootsTo s roots (s .playing .bars) 0
-  pub is : total ≡ leastTotal s
-  pub sound : Sound s rows
+-- no least tree carries anything into bar b: every carry state but 0 is idle there
+abbrev pub Shut : Sheet → ℕ → Type 0
+Shut s b = (c : ℕ) → 0 < c → c < carries → Idle s (beforeBars s b) c
 
--- some least tree may pass carry state c before bar b
-abbrev pub OnPath : Sheet → (b c : ℕ) → Type 0
-OnPath s b c = beforeBars s b c + behindBars s b c ≤ leastTotal s
+-- the same of a vector, which reaches carry state 0
+pub record Closed (s : Sheet) (v : List ℕ) : Type 0 where
+  pub reached : getD v 0 0 < NONE
+  pub idle : (c : ℕ) → 0 < c → c < carries → Idle s (λ i. getD v i 0) c
 
--- w has what the bars from bar b on total where a least tree may pass, and no less elsewhere
-pub record Suffix (s : Sheet) (b : ℕ) (w : List ℕ) : Type 0 where
-  pub no-less : (c : ℕ) → c < carries → behindBars s b c ≤ getD w c 0
-  pub same : (c : ℕ) → c < carries → OnPath s b c → getD w c 0 ≡ behindBars s b c
+-- The bars before bar e are one search of their own, where nothing is carried on to bar e. Some least list of theirs may pass carry state c
+-- before bar b.
+abbrev pub OnPath : Sheet → (e b c : ℕ) → Type 0
+OnPath s e b c = beforeBars s b c + behindBars s e b c ≤ beforeBars s e 0
+
+-- w has what the bars from bar b on total where a least list may pass, and no less elsewhere
+pub record Suffix (s : Sheet) (e b : ℕ) (w : List ℕ) : Type 0 where
+  pub no-less : (c : ℕ) → c < carries → behindBars s e b c ≤ getD w c 0
+  pub same : (c : ℕ) → c < carries → OnPath s e b c → getD w c 0 ≡ behindBars s e b c
   pub low : Low w
   pub four : length w ≡ 4
 
 -- a table of such vectors, one of each bar from bar b on and one behind the last
-pub record VectorsFrom (s : Sheet) (vectors : List ℕ) (b : ℕ) : Type 0 where
-  pub size : 4 * (s .playing .bars + 1) ≤ length vectors
-  pub each : (i : ℕ) → b ≤ i → i ≤ s .playing .bars → Suffix s i (rowAt vectors (4 * i))
+pub record VectorsFrom (s : Sheet) (vectors : List ℕ) (e b : ℕ) : Type 0 where
+  pub size : 4 * (e + 1) ≤ length vectors
+  pub each : (i : ℕ) → b ≤ i → i ≤ e → Suffix s e i (rowAt vectors (4 * i))
 
 -- the rows of bar b, with the vector v behind the bar
-pub record BeforeEntry (s : Sheet) (roots : List ℕ) (b : ℕ) (v : List ℕ) : Type 0 where
-  pub roots-are : RootsTo s roots (s .playing .bars) 0
-  pub bar-in : b < s .playing .bars
+pub record BeforeEntry (s : Sheet) (roots : List ℕ) (e b : ℕ) (v : List ℕ) : Type 0 where
+  pub roots-are : RootsTo s roots e 0
+  pub bar-in : b < e
+  pub end-in : e ≤ s .playing .bars
   pub few : s .playing .bars ≤ 64
   pub low : Low v
 
@@ -139,22 +147,64 @@ pub record BeforeAs (roots : List ℕ) (b : ℕ) (v w : List ℕ) : Type 0 where
   pub is : (c : ℕ) → c < carries → getD w c 0 ≡ lowest NONE (λ m. getD (rowAt roots (4 * (4 * b + c))) m 0 / 64 + getD v m 0) carries
   pub low : Low w
 
--- the vectors are made of the rows
-pub record BackEntry (s : Sheet) (roots vectors : List ℕ) (count : ℕ) : Type 0 where
+-- the vectors of the bars from bar `from` on that are before bar e are made of their rows
+pub record BackEntry (s : Sheet) (roots vectors : List ℕ) (from e : ℕ) : Type 0 where
   pub good : GoodRules (s .grammar)
-  pub count-is : count ≡ s .playing .bars
-  pub few : count ≤ 64
-  pub roots-are : RootsTo s roots (s .playing .bars) 0
-  pub room : 4 * (count + 1) ≤ length vectors
-  pub reached : leastTotal s < NONE
+  pub rising : from ≤ e
+  pub end-in : e ≤ s .playing .bars
+  pub few : s .playing .bars ≤ 64
+  pub roots-are : RootsTo s roots e 0
+  pub room : 4 * (e + 1) ≤ length vectors
+  pub reached : beforeBars s e 0 < NONE
 
--- the bars are built
-pub record BarsBuildEntry (s : Sheet) (plan units rows tree vectors roots : List ℕ) (start count : ℕ) : Type 0 where
-  pub entry : BarsEntry s plan units rows start count
-  pub vectors-are : VectorsFrom s vectors 0
-  pub roots-are : RootsTo s roots (s .playing .bars) 0
-  pub reached : leastTotal s < NONE
+-- the front of the tree, n bytes of it, is the first least list of the bars before bar b, from which nothing is carried on
+pub record Settled (s : Sheet) (tree : List ℕ) (b n : ℕ) : Type 0 where
+  pub bytes : List ℕ
+  pub price : Price
+  pub first : First (instanceOf s) (s .grammar .multiplier) (barsTo s b) (only NONE 0) 0 bytes price
+  pub carry-none : price .carry ≡ 0
+  pub count-is : n ≡ length bytes
+  pub front : take (length bytes) tree ≡ bytes
   pub room : treeBytes s ≤ length tree
+
+-- the bars from bar `from` on that are before bar e are built, behind those before them
+pub record BarsBuildEntry (s : Sheet) (plan units rows tree vectors roots : List ℕ) (start from e n : ℕ) : Type 0 where
+  pub entry : BarsEntry s plan units rows start (s .playing .bars)
+  pub rising : from ≤ e
+  pub end-in : e ≤ s .playing .bars
+  pub vectors-are : VectorsFrom s vectors e from
+  pub roots-are : RootsTo s roots e 0
+  pub reached : beforeBars s e 0 < NONE
+  pub shut : Shut s from
+  pub settled : Settled s tree from n
+
+-- and are settled with them
+pub record SettledAs (s : Sheet) (rows tree : List ℕ) (e n : ℕ) : Type 0 where
+  pub settled : Settled s tree e n
+  pub sound : Sound s rows
+
+-- the same, with a table to be filled with the vectors
+pub record SettleEntry (s : Sheet) (plan units rows tree roots vectors : List ℕ) (start from e n : ℕ) : Type 0 where
+  pub entry : BarsEntry s plan units rows start (s .playing .bars)
+  pub rising : from ≤ e
+  pub end-in : e ≤ s .playing .bars
+  pub roots-are : RootsTo s roots e 0
+  pub vectors-size : 4 * (e + 1) ≤ length vectors
+  pub reached : beforeBars s e 0 < NONE
+  pub shut : Shut s from
+  pub settled : Settled s tree from n
+
+-- all bars, with tables of the lengths that they need
+pub record ForwardEntry (s : Sheet) (plan units rows tree roots vectors : List ℕ) (start count : ℕ) : Type 0 where
+  pub entry : BarsEntry s plan units rows start count
+  pub roots-size : 16 * count ≤ length roots
+  pub vectors-size : 4 * (count + 1) ≤ length vectors
+  pub room : treeBytes s ≤ length tree
+
+-- no total is below the cap, or all bars are settled and the least total is known
+abbrev pub FoundIn : Sheet → (tree : List ℕ) → Found → Type 0
+FoundIn s tree NoTree = NONE ≤ leastTotal s
+FoundIn s tree (Tree n total) = Settled s tree (s .playing .bars) n × (total ≡ leastTotal s) × (leastTotal s < NONE)
 
 -- ---- a sheet
 

@@ -1,15 +1,18 @@
-// The search for a least tree of a sheet: the rows of its bars from the first bar to the last, the vectors behind them from the last to the
-// first, and then the tree from the first to the last.
+// The search for a least tree of a sheet, bar after bar: the rows of bars up to a bar line that nothing is carried over, then the vectors
+// behind them from the last of these bars to the first, and then their trees from the first to the last.
 ghost use mathlib.Core.Path.{_≡_};
-ghost use Prim.Native.Nat.{_+_, _*_, _<_, _≤_};
-ghost use lib.ListN.{length};
+ghost use mathlib.Core.Bool.{true};
+ghost use Prim.Native.Nat.{ℕ, _<_, _≤_};
+ghost use lib.ListN.{length, take};
+ghost use Rattle.slices.specs.Over.{over};
 ghost use Rattle.slices.specs.Table.{Table};
 ghost use Rattle.sheet.specs.Sheet.{Sheet};
-ghost use Rattle.trees.specs.LeastTotal.{carries, leastTotal};
-ghost use Rattle.search.specs.declared.Found.the-variants.{Tree};
-ghost use Rattle.search.specs.Search.{barOf, EnterEntry, BarsEntry, PassEntry, Rooted, RootsTo, PassedBar, Forward};
-ghost use Rattle.search.specs.Search.{BeforeEntry, BeforeAs, BackEntry, VectorsFrom, BarsBuildEntry, ParseEntry, FoundAs};
-ghost use Rattle.search.specs.Search.{SearchEntry, Searched};
+ghost use Rattle.trees.specs.LeastTotal.{carries};
+ghost use Rattle.plan.specs.Plan.{Prepared};
+ghost use Rattle.rows.specs.Vectors.{Low};
+ghost use Rattle.search.specs.Search.{barOf, EnterEntry, PassEntry, Rooted, RootsTo, PassedBar, Closed};
+ghost use Rattle.search.specs.Search.{BeforeEntry, BeforeAs, BackEntry, VectorsFrom, BarsBuildEntry, SettledAs, SettleEntry};
+ghost use Rattle.search.specs.Search.{ForwardEntry, FoundIn, ParseEntry, FoundAs, SearchEntry, Searched};
 use building::build;
 use expansions::pack_units;
 use plan::length_count;
@@ -119,37 +122,28 @@ fn pass<'a>(
     o
 }
 
-// Stores the rows of all bars; gives the least total.
-fn forward<'a>(
-    plan: &'a [u64; 3055],
-    units: &'a [u32; 513],
-    rows: &mut [u64],
-    roots: &mut [u64],
-    start: usize,
-    count: usize,
-) -> u64
-    requires { ⌜ ((s : Sheet) × BarsEntry s (now plan) (now units) (now rows) start count × (16 * count ≤ length (now roots))) ⌝ }
-    ensures { λ total. ⌜
-        ((s : Sheet) → BarsEntry s (now (plan .entry)) (now (units .entry)) (now (rows .entry)) start count
-        → 16 * count ≤ length (now (roots .entry)) → Forward s (now (rows .exit)) (now (roots .exit)) total)
-        ⌝ }
+// Whether every least tree carries nothing over the bar line, where v is the vector before it.
+fn closed(plan: &[u64; 3055], v: [u64; 4]) -> bool
+    requires { ⌜ Low v × ((s : Sheet) × Prepared s (now plan)) ⌝ }
+    ensures { λ r. ⌜ ((s : Sheet) → Prepared s (now (plan .entry)) → r ≡ true → Closed s v) ⌝ }
 {
-    let slots = rows.len() / 4;
-    let mut v = only_at(0);
-    let mut b: usize = 0;
-    while b < count {
-        let bar = enter(units, b, slots);
-        let w = pass(plan, units, rows, roots, bar, start, v);
-        v = w;
-        b += 1;
+    if v[0] >= NONE {
+        return false;
     }
-    v[0]
+    if idle(plan, v, 1) {
+        if idle(plan, v, 2) {
+            if idle(plan, v, 3) {
+                return true;
+            }
+        }
+    }
+    false
 }
 
 // The vector before bar b, of its rows and the vector v behind it.
 fn before(roots: &[u64], b: usize, v: [u64; 4]) -> [u64; 4]
-    requires { ⌜ ((s : Sheet) × BeforeEntry s (now roots) b v) ⌝ }
-    ensures { λ w. ⌜ ((s : Sheet) → BeforeEntry s (now (roots .entry)) b v → BeforeAs (now (roots .entry)) b v w) ⌝ }
+    requires { ⌜ ((s : Sheet) × (e : ℕ) × BeforeEntry s (now roots) e b v) ⌝ }
+    ensures { λ w. ⌜ ((s : Sheet) (e : ℕ) → BeforeEntry s (now (roots .entry)) e b v → BeforeAs (now (roots .entry)) b v w) ⌝ }
 {
     let at = 16 * b;
     [
@@ -160,15 +154,18 @@ fn before(roots: &[u64], b: usize, v: [u64; 4]) -> [u64; 4]
     ]
 }
 
-// Fills a table with the vector before each bar, and the one behind the last.
-fn backward<'a>(roots: &'a [u64], vectors: &mut [u64], count: usize)
-    requires { ⌜ ((s : Sheet) × BackEntry s (now roots) (now vectors) count) ⌝ }
-    ensures { λ _. ⌜ ((s : Sheet) → BackEntry s (now (roots .entry)) (now (vectors .entry)) count → VectorsFrom s (now (vectors .exit)) 0) ⌝ }
+// Fills a table with the vectors before the bars from bar `from` on that are before bar `end`, and the one behind them: nothing is carried
+// on.
+fn backward<'a>(roots: &'a [u64], vectors: &mut [u64], from: usize, end: usize)
+    requires { ⌜ ((s : Sheet) × BackEntry s (now roots) (now vectors) from end) ⌝ }
+    ensures { λ _. ⌜
+        ((s : Sheet) → BackEntry s (now (roots .entry)) (now (vectors .entry)) from end → VectorsFrom s (now (vectors .exit)) end from)
+        ⌝ }
 {
     let mut v = only_at(0);
-    store(vectors, 4 * count, v, 0);
-    let mut b = count;
-    while 0 < b {
+    store(vectors, 4 * end, v, 0);
+    let mut b = end;
+    while from < b {
         b -= 1;
         let w = before(roots, b, v);
         store(vectors, 4 * b, w, 0);
@@ -176,7 +173,7 @@ fn backward<'a>(roots: &'a [u64], vectors: &mut [u64], count: usize)
     }
 }
 
-// Writes the first least lists of the bars, one behind the other; gives the number of bytes.
+// Writes the first least lists of these bars, one behind the other, from byte `n` on; gives the number of bytes with those before.
 fn build_bars<'a>(
     plan: &'a [u64; 3055],
     units: &'a [u32; 513],
@@ -185,20 +182,24 @@ fn build_bars<'a>(
     vectors: &'a [u64],
     roots: &'a [u64],
     start: usize,
-    count: usize,
+    from: usize,
+    end: usize,
+    n: usize,
 ) -> usize
-    requires { ⌜ ((s : Sheet) × BarsBuildEntry s (now plan) (now units) (now rows) (now tree) (now vectors) (now roots) start count) ⌝ }
-    ensures { λ n. ⌜
+    requires { ⌜
+        ((s : Sheet) × BarsBuildEntry s (now plan) (now units) (now rows) (now tree) (now vectors) (now roots) start from end n)
+        ⌝ }
+    ensures { λ k. ⌜
         ((s : Sheet)
         → BarsBuildEntry s (now (plan .entry)) (now (units .entry)) (now (rows .entry)) (now (tree .entry)) (now (vectors .entry))
-        (now (roots .entry)) start count → FoundAs s (now (tree .entry)) (now (tree .exit)) (Tree n (leastTotal s)))
+        (now (roots .entry)) start from end n → SettledAs s (now (rows .exit)) (now (tree .exit)) end k)
         ⌝ }
 {
     let slots = rows.len() / 4;
-    let mut next: usize = 0;
+    let mut next = n;
     let mut carry: usize = 0;
-    let mut b: usize = 0;
-    while b < count {
+    let mut b = from;
+    while b < end {
         let bar = enter(units, b, slots);
         let y = load(roots, 16 * b + 4 * carry);
         let lo = 20160 * (b as u32);
@@ -225,7 +226,124 @@ fn build_bars<'a>(
     next
 }
 
-// Finds the first least tree, with so many rows as the sheet needs.
+// Builds the bars from bar `from` on that are before bar `end`, where no least tree carries anything into the first of them or on from the
+// last: with n bytes before them; gives the number of bytes.
+fn settle<'a>(
+    plan: &'a [u64; 3055],
+    units: &'a [u32; 513],
+    rows: &mut [u64],
+    tree: &mut [u8],
+    vectors: &mut [u64],
+    roots: &'a [u64],
+    start: usize,
+    from: usize,
+    end: usize,
+    n: usize,
+) -> usize
+    requires { ⌜
+        ((s : Sheet) × SettleEntry s (now plan) (now units) (now rows) (now tree) (now roots) (now vectors) start from end n)
+        ⌝ }
+    ensures { λ k. ⌜
+        ((s : Sheet)
+        → SettleEntry s (now (plan .entry)) (now (units .entry)) (now (rows .entry)) (now (tree .entry)) (now (roots .entry))
+        (now (vectors .entry)) start from end n → SettledAs s (now (rows .exit)) (now (tree .exit)) end k)
+        ⌝ }
+{
+    backward(roots, vectors, from, end);
+    build_bars(
+        plan,
+        units,
+        rows,
+        tree,
+        &vectors[..],
+        roots,
+        start,
+        from,
+        end,
+        n,
+    )
+}
+
+// Finds the first least tree, bar after bar. Where nothing is carried over a bar line, the bars before it are built at once, while the
+// table has their rows.
+fn forward<'a>(
+    plan: &'a [u64; 3055],
+    units: &'a [u32; 513],
+    rows: &mut [u64],
+    tree: &mut [u8],
+    roots: &mut [u64],
+    vectors: &mut [u64],
+    start: usize,
+    count: usize,
+) -> Found
+    requires { ⌜
+        ((s : Sheet) × ForwardEntry s (now plan) (now units) (now rows) (now tree) (now roots) (now vectors) start count)
+        ⌝ }
+    ensures { λ r. ⌜
+        ((s : Sheet)
+        → ForwardEntry s (now (plan .entry)) (now (units .entry)) (now (rows .entry)) (now (tree .entry)) (now (roots .entry))
+        (now (vectors .entry)) start count → FoundIn s (now (tree .exit)) r)
+        ⌝ }
+{
+    let slots = rows.len() / 4;
+    let mut v = only_at(0);
+    let mut done: usize = 0;
+    let mut next: usize = 0;
+    let mut b: usize = 0;
+    while b < count {
+        let bar = enter(units, b, slots);
+        let w = pass(plan, units, rows, roots, bar, start, v);
+        v = w;
+        b += 1;
+        if closed(plan, v) {
+            next = settle(
+                plan,
+                units,
+                rows,
+                tree,
+                vectors,
+                &roots[..],
+                start,
+                done,
+                b,
+                next,
+            );
+            done = b;
+        }
+    }
+    let total = v[0];
+    if total >= NONE {
+        return Found::NoTree;
+    }
+    let nodes = settle(
+        plan,
+        units,
+        rows,
+        tree,
+        vectors,
+        &roots[..],
+        start,
+        done,
+        count,
+        next,
+    );
+    Found::Tree { nodes, total }
+}
+
+// Copies the first n bytes.
+fn copy(from: &[u8], to: &mut [u8], n: usize)
+    requires { ⌜ (n ≤ length (now from)) × (n ≤ length (now to)) ⌝ }
+    ensures { λ _. ⌜ now (to .exit) ≡ over (take n (now (from .entry))) (now (to .entry)) ⌝ }
+{
+    let mut k: usize = 0;
+    while k < n {
+        to[k] = from[k];
+        k += 1;
+    }
+}
+
+// Finds the first least tree, with so many rows as the sheet needs. It is made aside and copied, since a tree that is not found leaves the
+// tree slice as it is.
 fn parse<'a>(
     plan: &'a [u64; 3055],
     units: &'a [u32; 513],
@@ -243,14 +361,25 @@ fn parse<'a>(
     let n = rows.len();
     clear(rows, n);
     let mut roots = [0u64; 1024];
-    let total = forward(plan, units, rows, &mut roots, start, count);
-    if total >= NONE {
-        return Found::NoTree;
-    }
     let mut vectors = [0u64; 260];
-    backward(&roots, &mut vectors, count);
-    let nodes = build_bars(plan, units, rows, tree, &vectors, &roots, start, count);
-    Found::Tree { nodes, total }
+    let mut bytes = [0u8; 41024];
+    let found = forward(
+        plan,
+        units,
+        rows,
+        &mut bytes,
+        &mut roots,
+        &mut vectors,
+        start,
+        count,
+    );
+    match found {
+        Found::NoTree => Found::NoTree,
+        Found::Tree { nodes, total } => {
+            copy(&bytes, tree, nodes);
+            Found::Tree { nodes, total }
+        }
+    }
 }
 
 // Finds the first least tree of a sheet and writes it to the front of the tree slice. The required cells of the work slice are 0 at the

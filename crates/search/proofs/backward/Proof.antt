@@ -14,12 +14,12 @@ use Rattle.search.proofs.backward.Statement.{statement}
 use Rattle.search.proofs.backward.Tie as tie
 
 abbrev Inv-loop : tie.InvT-loop
-Inv-loop roots vectors₀ count v₀ b₀ vectors v b =
-    (b ≤ count) × (length vectors ≡ length vectors₀)
-    × ((s : Sheet) → BackEntry s roots vectors₀ count → Backward s vectors b v)
+Inv-loop roots vectors₀ from end v₀ b₀ vectors v b =
+    (b ≤ end) × (from ≤ b) × (length vectors ≡ length vectors₀)
+    × ((s : Sheet) → BackEntry s roots vectors₀ from end → Backward s vectors end b v)
 
 abbrev μ-loop : tie.MeasureT-loop
-μ-loop roots vectors₀ count v₀ b₀ vectors v b = b
+μ-loop roots vectors₀ from end v₀ b₀ vectors v b = b
 
 only-at-requires : tie.Need-only-at-requires Inv-loop μ-loop
 only-at-requires c κs = search needs
@@ -46,7 +46,7 @@ loop-holds c =
     let h = start .pre .1 in
     let same = back-stored h (only-at .result) (store .ensures) in
     let vectors = start .args .vectors .now in
-    (omega arith, refl, λ s e. backward-none (back-again e vectors (sym same)) (only-at .ensures) (store .ensures))
+    (omega arith, h .rising, refl, λ s e. backward-none (back-again e vectors (sym same)) (only-at .ensures) (store .ensures))
 
 sub-b : tie.Need-sub-b Inv-loop μ-loop
 sub-b c = search needs
@@ -61,8 +61,8 @@ before-requires c κs =
     let s = start .pre .0 in
     let h = start .pre .1 in
     let same = back-stored h (only-at .result) (store .ensures) in
-    let so-far = loop .inv .2 s (back-again h _ same) in
-    (s, backward-entry h (loop-test .taken) (loop .inv .0) so-far)
+    let so-far = loop .inv .3 s (back-again h _ same) in
+    (s, start .args .end, backward-entry h (loop-test .taken) (loop .inv .0) so-far)
 
 mul-store-2 : tie.Need-mul-store-2 Inv-loop μ-loop
 mul-store-2 c =
@@ -82,8 +82,8 @@ store-requires-2 c κs =
     let s = start .pre .0 in
     let h = start .pre .1 in
     let same = back-stored h (only-at .result) (store .ensures) in
-    let so-far = loop .inv .2 s (back-again h _ same) in
-    let told = before2 .ensures s (backward-entry h (loop-test .taken) (loop .inv .0) so-far) in
+    let so-far = loop .inv .3 s (back-again h _ same) in
+    let told = before2 .ensures s (start .args .end) (backward-entry h (loop-test .taken) (loop .inv .0) so-far) in
     (backward-room h (loop-test .taken) (loop .inv .0) so-far, omega arith, λ x. omega (arith, told .low x))
 
 loop-less : tie.Need-loop-less Inv-loop μ-loop
@@ -101,13 +101,14 @@ loop-again c =
     let s = start .pre .0 in
     let h = start .pre .1 in
     let same = back-stored h (only-at .result) (store .ensures) in
-    let so-far = loop .inv .2 s (back-again h _ same) in
+    let so-far = loop .inv .3 s (back-again h _ same) in
     let room = backward-room h (loop-test .taken) (loop .inv .0) so-far in (
       omega (arith, loop .inv .0),
-      length-stored (loop .vectors) (before2 .result) (4 * (loop .b - 1)) room (store2 .ensures) ∙ loop .inv .1,
+      omega (arith, loop-test .taken),
+      length-stored (loop .vectors) (before2 .result) (4 * (loop .b - 1)) room (store2 .ensures) ∙ loop .inv .2,
       λ s e.
-          let so-far = loop .inv .2 s e in
-          let told = before2 .ensures s (backward-entry e (loop-test .taken) (loop .inv .0) so-far) in
+          let so-far = loop .inv .3 s e in
+          let told = before2 .ensures s (start .args .end) (backward-entry e (loop-test .taken) (loop .inv .0) so-far) in
           backward-more e (loop-test .taken) (loop .inv .0) so-far told (store2 .ensures),
     )
 
@@ -118,7 +119,7 @@ same-length c =
     let store = c .before .before .before .before .store in
     let loop = c .before .loop in
     let h = start .pre .1 in
-    loop .inv .1 ∙ back-stored h (only-at .result) (store .ensures)
+    loop .inv .2 ∙ back-stored h (only-at .result) (store .ensures)
 
 returns : tie.Need-returns Inv-loop μ-loop
 returns c =
@@ -129,8 +130,8 @@ returns c =
     let loop-test = c .loop-test in
     let h = start .pre .1 in
     let same = back-stored h (only-at .result) (store .ensures) in
-    let all : loop .b ≡ 0 = omega (arith, loop-test .left) in
-    λ s e. rw all at (loop .inv .2 s (back-again e _ same) .vectors-are)
+    let all : loop .b ≡ start .args .from = omega (arith, loop-test .left, loop .inv .1) in
+    λ s e. rw all at (loop .inv .3 s (back-again e _ same) .vectors-are)
 
 pub backward-spec : {M : Type 1} → statement M
 backward-spec =

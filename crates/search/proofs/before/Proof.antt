@@ -20,7 +20,7 @@ dot-requires c κs =
     let start = c .before .before .before in
     let load = c .before .load in
     let totals = c .totals in
-    let h = start .pre .1 in
+    let h = start .pre .2 in
     before-asked h 0 (omega arith) (16 * start .args .b) (omega arith) (load .ensures) (totals .ensures)
 
 add-load : tie.Need-add-load
@@ -37,7 +37,7 @@ dot-requires-2 c κs =
     let start = c .before .before .before .before .before .before in
     let load2 = c .before .load2 in
     let totals2 = c .totals2 in
-    let h = start .pre .1 in
+    let h = start .pre .2 in
     before-asked h 1 (omega arith) (16 * start .args .b + 4) (omega arith) (load2 .ensures) (totals2 .ensures)
 
 add-load-2 : tie.Need-add-load-2
@@ -54,7 +54,7 @@ dot-requires-3 c κs =
     let start = c .before .before .before .before .before .before .before .before .before in
     let load3 = c .before .load3 in
     let totals3 = c .totals3 in
-    let h = start .pre .1 in
+    let h = start .pre .2 in
     before-asked h 2 (omega arith) (16 * start .args .b + 8) (omega arith) (load3 .ensures) (totals3 .ensures)
 
 add-load-3 : tie.Need-add-load-3
@@ -71,7 +71,7 @@ dot-requires-4 c κs =
     let start = c .before .before .before .before .before .before .before .before .before .before .before .before in
     let load4 = c .before .load4 in
     let totals4 = c .totals4 in
-    let h = start .pre .1 in
+    let h = start .pre .2 in
     before-asked h 3 (omega arith) (16 * start .args .b + 12) (omega arith) (load4 .ensures) (totals4 .ensures)
 
 returns : tie.Need-returns
@@ -90,7 +90,7 @@ returns c =
     let totals4 = c .before .totals4 in
     let dot4 = c .dot4 in
     let b = start .args .b in
-    λ s h.
+    λ s e h.
     let zeroth = before-cell h 0 (omega arith) (16 * b) (omega arith) (load .ensures) (totals .ensures) (dot .ensures) in
     let first = before-cell h 1 (omega arith) (16 * b + 4) (omega arith) (load2 .ensures) (totals2 .ensures) (dot2 .ensures) in
     let second = before-cell h 2 (omega arith) (16 * b + 8) (omega arith) (load3 .ensures) (totals3 .ensures) (dot3 .ensures) in

@@ -14,15 +14,18 @@ use Rattle.search.proofs.build_bars.Statement.{statement}
 use Rattle.search.proofs.build_bars.Tie as tie
 
 abbrev Inv-loop : tie.InvT-loop
-Inv-loop plan units rows₀ tree₀ vectors roots start count slots next₀ carry₀ b₀ rows tree next carry b =
-    (b ≤ count) × ((s : Sheet) → BarsBuildEntry s plan units rows₀ tree₀ vectors roots start count
-    → InBars s rows tree₀ tree b carry next)
+Inv-loop plan units rows₀ tree₀ vectors roots start from end n slots next₀ carry₀ b₀ rows tree next carry b =
+    (b ≤ end) × (from ≤ b) × ((s : Sheet) → BarsBuildEntry s plan units rows₀ tree₀ vectors roots start from end n
+    → InBars s rows tree₀ tree end b carry next)
 
 abbrev μ-loop : tie.MeasureT-loop
-μ-loop plan units rows₀ tree₀ vectors roots start count slots next₀ carry₀ b₀ rows tree next carry b = count - b
+μ-loop plan units rows₀ tree₀ vectors roots start from end n slots next₀ carry₀ b₀ rows tree next carry b = end - b
 
 loop-holds : tie.Need-loop-holds Inv-loop μ-loop
-loop-holds c = (omega arith, λ s h. in-bars-none h)
+loop-holds c =
+    let start = c .before .before .before .before in
+    let h = start .pre .1 in
+    (h .rising, omega arith, λ s h. in-bars-none h)
 
 enter-requires : tie.Need-enter-requires Inv-loop μ-loop
 enter-requires c κs =
@@ -31,14 +34,14 @@ enter-requires c κs =
     let loop-test = c .loop-test in
     let s = start .pre .0 in
     let h = start .pre .1 in
-    (s, bar-enter (h .entry) (loop .b) (loop-test .taken))
+    (s, bar-enter (h .entry) (loop .b) (omega (arith, loop-test .taken, h .end-in)))
 
 mul-load : tie.Need-mul-load Inv-loop μ-loop
 mul-load c =
     let start = c .before .before .before .before .before .before .before in
     let loop-test = c .before .loop-test in
     let h = start .pre .1 in
-    record { fits = omega (arith, few-bars (h .entry), loop-test .taken) }
+    record { fits = omega (arith, few-bars (h .entry), h .end-in, loop-test .taken) }
 
 mul-load-2 : tie.Need-mul-load-2 Inv-loop μ-loop
 mul-load-2 c =
@@ -48,8 +51,8 @@ mul-load-2 c =
     let s = start .pre .0 in
     let h = start .pre .1 in
     let below = loop-test .taken in
-    let so-far = loop .inv .1 s h in
-    record { fits = omega (arith, bar-carry h so-far below) }
+    let so-far = loop .inv .2 s h in
+    record { fits = omega (arith, bar-carry h so-far (loop .inv .1) below) }
 
 add-load : tie.Need-add-load Inv-loop μ-loop
 add-load c =
@@ -59,8 +62,8 @@ add-load c =
     let s = start .pre .0 in
     let h = start .pre .1 in
     let below = loop-test .taken in
-    let so-far = loop .inv .1 s h in
-    record { fits = omega (arith, few-bars (h .entry), below, bar-carry h so-far below) }
+    let so-far = loop .inv .2 s h in
+    record { fits = omega (arith, few-bars (h .entry), h .end-in, below, bar-carry h so-far (loop .inv .1) below) }
 
 load-requires : tie.Need-load-requires Inv-loop μ-loop
 load-requires c κs =
@@ -70,36 +73,36 @@ load-requires c κs =
     let s = start .pre .0 in
     let h = start .pre .1 in
     let below = loop-test .taken in
-    let so-far = loop .inv .1 s h in
-    root-room h so-far below
+    let so-far = loop .inv .2 s h in
+    root-room h so-far (loop .inv .1) below
 
 cast-lo : tie.Need-cast-lo Inv-loop μ-loop
 cast-lo c =
     let start = c .before .before .before .before .before .before .before .before in
     let loop-test = c .before .before .loop-test in
     let h = start .pre .1 in
-    omega (arith, few-bars (h .entry), loop-test .taken)
+    omega (arith, few-bars (h .entry), h .end-in, loop-test .taken)
 
 mul-lo : tie.Need-mul-lo Inv-loop μ-loop
 mul-lo c =
     let start = c .before .before .before .before .before .before .before .before in
     let loop-test = c .before .before .loop-test in
     let h = start .pre .1 in
-    record { fits = omega (arith, few-bars (h .entry), loop-test .taken) }
+    record { fits = omega (arith, few-bars (h .entry), h .end-in, loop-test .taken) }
 
 add-b : tie.Need-add-b Inv-loop μ-loop
 add-b c =
     let start = c .before .before .before .before .before .before .before .before in
     let loop-test = c .before .before .loop-test in
     let h = start .pre .1 in
-    record { fits = omega (arith, few-bars (h .entry), loop-test .taken) }
+    record { fits = omega (arith, few-bars (h .entry), h .end-in, loop-test .taken) }
 
 mul-load-3 : tie.Need-mul-load-3 Inv-loop μ-loop
 mul-load-3 c =
     let start = c .before .before .before .before .before .before .before .before in
     let loop-test = c .before .before .loop-test in
     let h = start .pre .1 in
-    record { fits = omega (arith, few-bars (h .entry), loop-test .taken) }
+    record { fits = omega (arith, few-bars (h .entry), h .end-in, loop-test .taken) }
 
 load-requires-2 : tie.Need-load-requires-2 Inv-loop μ-loop
 load-requires-2 c κs =
@@ -109,8 +112,8 @@ load-requires-2 c κs =
     let s = start .pre .0 in
     let h = start .pre .1 in
     let below = loop-test .taken in
-    let so-far = loop .inv .1 s h in
-    vector-room h so-far below
+    let so-far = loop .inv .2 s h in
+    vector-room h so-far (loop .inv .1) below
 
 build-requires : tie.Need-build-requires Inv-loop μ-loop
 build-requires c κs =
@@ -123,9 +126,9 @@ build-requires c κs =
     let s = start .pre .0 in
     let h = start .pre .1 in
     let below = loop-test .taken in
-    let so-far = loop .inv .1 s h in
-    let entry = bar-build h so-far below (load .ensures) (load2 .ensures) (enter .ensures s (bar-enter (h .entry) (loop .b) below)) in
-    (s, entry)
+    let so-far = loop .inv .2 s h in
+    let is-bar = enter .ensures s (bar-enter (h .entry) (loop .b) (omega (arith, below, h .end-in))) in
+    (s, bar-build h so-far (loop .inv .1) below (load .ensures) (load2 .ensures) is-bar)
 
 loop-less : tie.Need-loop-less Inv-loop μ-loop
 loop-less c = search needs
@@ -140,11 +143,13 @@ loop-again c =
     let build = c .before .before .before .before .build in
     let below = loop-test .taken in (
       omega (arith, below),
+      omega (arith, loop .inv .1),
       λ s h.
-          let so-far = loop .inv .1 s h in
-          let entry = bar-build h so-far below (load .ensures) (load2 .ensures) (enter .ensures s (bar-enter (h .entry) (loop .b) below)) in
-          let told = build .ensures s entry in
-          in-bars-more h so-far below (load .ensures) (load2 .ensures) {rows″ = build .last .1 .1 .0} {then = build .last .1 .1 .1 .0} told,
+          let so-far = loop .inv .2 s h in
+          let is-bar = enter .ensures s (bar-enter (h .entry) (loop .b) (omega (arith, below, h .end-in))) in
+          let told = build .ensures s (bar-build h so-far (loop .inv .1) below (load .ensures) (load2 .ensures) is-bar) in
+          in-bars-more h so-far (loop .inv .1) below (load .ensures) (load2 .ensures) {rows″ = build .last .1 .1 .0}
+          {then = build .last .1 .1 .1 .0} told,
     )
 
 same-length : tie.Need-same-length Inv-loop μ-loop
@@ -153,7 +158,7 @@ same-length c =
     let loop = c .before .loop in
     let s = start .pre .0 in
     let h = start .pre .1 in
-    let so-far = loop .inv .1 s h in
+    let so-far = loop .inv .2 s h in
     so-far .sound .size ∙ sym (h .entry .sound .size)
 
 same-length-2 : tie.Need-same-length-2 Inv-loop μ-loop
@@ -162,7 +167,7 @@ same-length-2 c =
     let loop = c .before .loop in
     let s = start .pre .0 in
     let h = start .pre .1 in
-    let so-far = loop .inv .1 s h in
+    let so-far = loop .inv .2 s h in
     ap length (so-far .partway .written) ∙ length-over-from _ _ _
 
 returns : tie.Need-returns Inv-loop μ-loop
@@ -170,8 +175,8 @@ returns c =
     let start = c .before .before .before .before .before .before in
     let loop = c .before .loop in
     let loop-test = c .loop-test in
-    let all : loop .b ≡ start .args .count = omega (arith, loop-test .left, loop .inv .0) in
-    λ s h. in-bars-all h (loop .inv .1 s h) all
+    let all : loop .b ≡ start .args .end = omega (arith, loop-test .left, loop .inv .0) in
+    λ s h. in-bars-all h (loop .inv .2 s h) all
 
 pub build-bars-spec : {M : Type 1} → statement M
 build-bars-spec =

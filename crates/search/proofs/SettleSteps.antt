@@ -1,0 +1,158 @@
+-- The steps of `closed`, `settle`, `forward` and `copy`: bars up to a bar line that nothing is carried over are built at once.
+use Prim.Native.Nat.{ℕ, _+_, _≤_, _<_}
+use mathlib.Core.Path.{_≡_, refl, sym, ap, subst, _∙_}
+use mathlib.Core.List.{List}
+use native.Mathlib.Decide.{ℕ-discrete}
+use native.Mathlib.Numerals.{add-one}
+use native.Mathlib.Omega.{arith}
+use lib.ListN.{length, take, getD, set}
+use lib.Seq.{take-suc, length-take-le}
+use Rattle.slices.specs.Over.{over, over-more}
+use Rattle.sheet.specs.Sheet.{Sheet}
+use Rattle.derivations.specs.Minima.{only}
+use Rattle.trees.specs.LeastTotal.{NONE, carries, leastTotal}
+use Rattle.rows.specs.Vectors.{vec, Low}
+use Rattle.rows.specs.VectorLaws.{low-eq}
+use Rattle.rows.specs.IdleLaws.{Idle}
+use Rattle.search.specs.declared.Found.the-variants.{NoTree, Tree}
+use Rattle.search.specs.Search.{beforeBars, Shut, Closed, BackEntry, VectorsFrom, BarsBuildEntry, Settled}
+use Rattle.search.specs.Search.{SettledAs, SettleEntry, ForwardEntry, FoundIn}
+use Rattle.search.specs.BarLaws.{before-low, shut-first, total-last}
+use Rattle.search.specs.SettleLaws.{settled-none}
+use Rattle.search.proofs.EnterSteps.{few-bars, at-vec, idle-same}
+use Rattle.search.proofs.PassSteps.{Forwarded, forward-none}
+
+-- ---- `closed`
+
+pub closed-told : {s : Sheet} {v : List ℕ} → getD v 0 0 < NONE → Idle s (λ i. getD v i 0) 1 → Idle s (λ i. getD v i 0) 2
+    → Idle s (λ i. getD v i 0) 3 → Closed s v
+closed-told {s} {v} low one two three = record { reached = low; idle = idle }
+  where
+    idle : (c : ℕ) → 0 < c → c < carries → Idle s (λ i. getD v i 0) c
+    idle c lo hi = elim (ℕ-discrete c 1) [
+      | yes e ↦ subst (Idle s (λ i. getD v i 0)) (sym e) one
+      | no e ↦ elim (ℕ-discrete c 2) [
+        | yes k ↦ subst (Idle s (λ i. getD v i 0)) (sym k) two
+        | no k ↦ let last : c ≡ 3 = omega arith in subst (Idle s (λ i. getD v i 0)) (sym last) three
+      ]
+    ]
+
+-- ---- `settle`
+
+module _ {s : Sheet} {plan us rows tree roots vectors : List ℕ} {start from e n : ℕ}
+    (h : SettleEntry s plan us rows tree roots vectors start from e n) where
+  pub settle-back : BackEntry s roots vectors from e
+  settle-back = record {
+    good = h .entry .prepared .good;
+    rising = h .rising;
+    end-in = h .end-in;
+    few = few-bars (h .entry);
+    roots-are = h .roots-are;
+    room = h .vectors-size;
+    reached = h .reached;
+  }
+
+  pub settle-build : {filled : List ℕ} → VectorsFrom s filled e from → BarsBuildEntry s plan us rows tree filled roots start from e n
+  settle-build are = record {
+    entry = h .entry;
+    rising = h .rising;
+    end-in = h .end-in;
+    vectors-are = are;
+    roots-are = h .roots-are;
+    reached = h .reached;
+    shut = h .shut;
+    settled = h .settled;
+  }
+
+-- ---- `forward`
+
+-- the rows of the bars before bar b are stored, v is the vector before it, and the bars before bar `done` are settled
+pub record Going (s : Sheet) (rows tree roots : List ℕ) (b : ℕ) (v : List ℕ) (done next : ℕ) : Type 0 where
+  pub forwarded : Forwarded s rows roots b v
+  pub rising : done ≤ b
+  pub shut : Shut s done
+  pub settled : Settled s tree done next
+
+pub forwarded-low : {s : Sheet} {rows roots : List ℕ} {b : ℕ} {v : List ℕ} → Forwarded s rows roots b v → Low v
+forwarded-low {s} {b = b} {v} p = low-eq v (beforeBars s b) (p .is) (before-low s b)
+
+module _ {s : Sheet} {plan us rows tree roots vectors : List ℕ} {start count : ℕ}
+    (h : ForwardEntry s plan us rows tree roots vectors start count) where
+  pub going-none : {v : List ℕ} → v ≡ vec (only NONE 0) → Going s rows tree roots 0 v 0 0
+  going-none ev = record {
+    forwarded = forward-none (h .entry) (h .roots-size) ev;
+    rising = omega arith;
+    shut = shut-first s;
+    settled = settled-none s tree (h .room);
+  }
+
+  -- a bar more
+  pub going-more : {now tree′ roots′ : List ℕ} {b : ℕ} {v : List ℕ} {done next : ℕ} {then roots″ w : List ℕ}
+      → Going s now tree′ roots′ b v done next → Forwarded s then roots″ (b + 1) w → Going s then tree′ roots″ (b + 1) w done next
+  going-more p more =
+      record { forwarded = more; rising = omega (arith, p .rising); shut = p .shut; settled = p .settled }
+
+  module _ {now tree′ roots′ : List ℕ} {b : ℕ} {v : List ℕ} {done next : ℕ} (p : Going s now tree′ roots′ b v done next) where
+    total-is : getD v 0 0 ≡ beforeBars s b 0
+    total-is = at-vec (beforeBars s b) (p .forwarded .is) 0 (omega arith)
+
+    -- the bars before bar b are settled too, where it is reached
+    pub going-settle : {filled : List ℕ} → b ≤ count → length filled ≡ length vectors → getD v 0 0 < NONE
+        → SettleEntry s plan us now tree′ roots′ filled start done b next
+    going-settle hb size low = record {
+      entry = record {
+        prepared = h .entry .prepared;
+        onsets = h .entry .onsets;
+        start-is = h .entry .start-is;
+        count-is = refl;
+        some-slot = h .entry .some-slot;
+        sound = p .forwarded .sound;
+      };
+      rising = p .rising;
+      end-in = omega (arith, h .entry .count-is);
+      roots-are = p .forwarded .roots-are;
+      vectors-size = omega (arith, h .vectors-size);
+      reached = omega (arith, total-is);
+      shut = p .shut;
+      settled = p .settled;
+    }
+
+    pub going-settled : {then tree″ : List ℕ} {k : ℕ} → Closed s v → SettledAs s then tree″ b k → Going s then tree″ roots′ b v b k
+    going-settled closed told = record {
+      forwarded = record { roots-are = p .forwarded .roots-are; is = p .forwarded .is; sound = told .sound };
+      rising = omega arith;
+      shut = λ c lo hi. idle-same s (λ i. getD v i 0) (beforeBars s b) c total-is (at-vec (beforeBars s b) (p .forwarded .is) c hi)
+          (closed .idle c lo hi);
+      settled = told .settled;
+    }
+
+    module _ (all : b ≡ count) where
+      last : b ≡ s .playing .bars
+      last = all ∙ h .entry .count-is
+
+      least-is : getD v 0 0 ≡ leastTotal s
+      least-is = total-is ∙ ap (λ (n : ℕ). beforeBars s n 0) last ∙ total-last s (h .entry .prepared .good)
+
+      pub going-none-found : NONE ≤ getD v 0 0 → FoundIn s tree′ NoTree
+      going-none-found k = omega (arith, least-is)
+
+      pub going-last : {filled : List ℕ} → length filled ≡ length vectors → getD v 0 0 < NONE
+          → SettleEntry s plan us now tree′ roots′ filled start done count next
+      going-last {filled} size low =
+          subst (λ (n : ℕ). SettleEntry s plan us now tree′ roots′ filled start done n next) all
+          (going-settle {filled = filled} (omega (arith, all)) size low)
+
+      pub going-found : {then tree″ : List ℕ} {k : ℕ} → getD v 0 0 < NONE → SettledAs s then tree″ count k
+          → FoundIn s tree″ (Tree k (getD v 0 0))
+      going-found {then} {tree″} {k} low told =
+          (subst (λ (n : ℕ). Settled s tree″ n k) (h .entry .count-is) (told .settled), least-is, omega (arith, least-is))
+
+-- ---- `copy`
+
+pub copied-more : (from to : List ℕ) {now : List ℕ} (i : ℕ) → i < length from → i < length to → now ≡ over (take i from) to
+    → set now i (getD from i 0) ≡ over (take (i + 1) from) to
+copied-more from to {now} i hf ht e =
+    let size : length (take i from) ≡ i = length-take-le i from (omega arith) in
+    rw (add-one, take-suc from i 0 hf) (ap (λ (xs : List ℕ). set xs i (getD from i 0)) e
+    ∙ ap (λ (k : ℕ). set (over (take i from) to) k (getD from i 0)) (sym size)
+    ∙ over-more (take i from) to (getD from i 0) (omega (arith, size)))

@@ -1,0 +1,57 @@
+-- `closed` meets its contract: carry state 0 is reached, and every other is idle. Assumes nothing.
+use mathlib.Core.Bool.{false≢true}
+use native.Mathlib.Omega.{arith}
+use Rattle.search.proofs.SettleSteps.{closed-told}
+use borrow.Author.Needs.{needs}
+use Rattle.search.proofs.closed.Statement.{statement}
+use Rattle.search.proofs.closed.Tie as tie
+
+array-read-if1 : tie.Need-array-read-if1
+array-read-if1 c = search needs
+
+returns : tie.Need-returns
+returns c = λ s p f. absurd (false≢true f)
+
+idle-requires : tie.Need-idle-requires
+idle-requires c κs = search needs
+
+idle-requires-2 : tie.Need-idle-requires-2
+idle-requires-2 c κs = search needs
+
+idle-requires-3 : tie.Need-idle-requires-3
+idle-requires-3 c κs = search needs
+
+returns-2 : tie.Need-returns-2
+returns-2 c =
+    let if1 = c .before .before .before .before .before .before .if1 in
+    let idle = c .before .before .before .before .before .idle in
+    let if2 = c .before .before .before .before .if2 in
+    let idle2 = c .before .before .before .idle2 in
+    let if3 = c .before .before .if3 in
+    let idle3 = c .before .idle3 in
+    let if4 = c .if4 in
+    λ s p _. closed-told (omega (arith, if1 .left)) (idle .ensures s p (if2 .taken)) (idle2 .ensures s p (if3 .taken))
+    (idle3 .ensures s p (if4 .taken))
+
+returns-3 : tie.Need-returns-3
+returns-3 c = λ s p f. absurd (false≢true f)
+
+returns-4 : tie.Need-returns-4
+returns-4 c = λ s p f. absurd (false≢true f)
+
+returns-5 : tie.Need-returns-5
+returns-5 c = λ s p f. absurd (false≢true f)
+
+pub closed-spec : {M : Type 1} → statement M
+closed-spec =
+    tie.close
+    (tie.spec
+    array-read-if1
+    returns
+    idle-requires
+    idle-requires-2
+    idle-requires-3
+    returns-2
+    returns-3
+    returns-4
+    returns-5)
