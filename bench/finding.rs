@@ -277,6 +277,7 @@ struct Features {
     empty_bar: usize,
     no_multiplier: usize,
     largest_multiplier: usize,
+    dense: usize,
     arities: [usize; 9],
     most_nodes: usize,
 }
@@ -300,6 +301,7 @@ impl Features {
         self.empty_bar += usize::from(!(0..sheet.bars.into()).all(inhabited));
         self.no_multiplier += usize::from(sheet.multiplier == 0);
         self.largest_multiplier += usize::from(sheet.multiplier == u16::MAX);
+        self.dense += usize::from(is_dense(sheet));
         self.most_nodes = self.most_nodes.max(list.len());
         self.add_rules(sheet, list);
     }
@@ -330,6 +332,7 @@ impl Features {
             ("have an empty bar", self.empty_bar),
             ("have multiplier 0", self.no_multiplier),
             ("have multiplier 65,535", self.largest_multiplier),
+            ("have three divisions a head or more", self.dense),
         ] {
             println!("    {count:>6} {feature}");
         }
@@ -338,6 +341,20 @@ impl Features {
         }
         println!("  largest tree: {} nodes", self.most_nodes);
     }
+}
+
+/// Whether there are three divisions, or more, to each nonterminal that has one.
+fn is_dense(sheet: &Sheet) -> bool {
+    let mut heads = [false; 16];
+    let mut divisions = 0;
+    for rule in &sheet.rules {
+        if let peer::Rule::Division { head, .. } = rule {
+            heads[usize::from(*head)] = true;
+            divisions += 1;
+        }
+    }
+    let heads = heads.into_iter().filter(|&divides| divides).count();
+    divisions > 0 && 3 * heads <= divisions
 }
 
 /// The places of the onsets carried, taken from the score of a valid tree.
@@ -407,6 +424,11 @@ fn time_all() {
     time(&Timed::new("tune", tunes::tune(32)));
     time(&Timed::new("heaviest, halves and thirds", tunes::plain()));
     time(&Timed::new("heaviest, all divide", tunes::wide()));
+    time(&Timed::new(
+        "heaviest, fourteen divide by three",
+        tunes::fourteen(),
+    ));
+    time(&Timed::new("heaviest, ten divide by four", tunes::ten()));
     time(&Timed::new("heaviest, six divide by all", tunes::dense()));
     println!(" Such tunes, short and long:");
     for bars in [8, 16, 32, 64] {

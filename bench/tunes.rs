@@ -114,6 +114,20 @@ pub fn wide() -> Vec<u8> {
     heaviest(16, |head| vec![2 + head % 7, 2 + (head + 3) % 7])
 }
 
+/// Fourteen nonterminals in parts of three numbers each, which share some.
+pub fn fourteen() -> Vec<u8> {
+    heaviest(14, |head| {
+        (0..3).map(|at| 2 + (head + 2 * at) % 7).collect()
+    })
+}
+
+/// Ten nonterminals in parts of four numbers each, which share most.
+pub fn ten() -> Vec<u8> {
+    heaviest(10, |head| {
+        (0..4).map(|at| 2 + (head + 2 * at) % 7).collect()
+    })
+}
+
 /// Six nonterminals in parts of every number, so that all 84 lengths are met by
 /// each.
 pub fn dense() -> Vec<u8> {

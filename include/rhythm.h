@@ -2,7 +2,8 @@
 
    Every entry takes every text and every slice, of any length and content, checks the text itself, and returns. A text or a slice is a
    pointer to its first element and the number of its elements; where that number is 0 the pointer is not read but must not be null. Slices
-   handed to one call must not overlap. Nothing is kept between calls, and calls on different slices may run side by side.
+   handed to one call must not overlap. Nothing is kept between calls, and calls on different slices may run side by side. There is no heap:
+   a thread that calls rhythm_find wants 256 KiB of stack (on x86-64 128 KiB were enough for the heaviest sheets of bench/run).
 
    A sheet, its valid trees, R, D, totals, score lines and refusal numbers are those of document 01; docs/PROOF.md says where each promise
    is stated and proved. A refusal gives its number and its line (0 where it has none), zeros elsewhere, and keeps every slice but the work

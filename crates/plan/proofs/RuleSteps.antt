@@ -17,7 +17,7 @@ use Rattle.expansions.specs.Tables.{unpackedOf, cellOf, PackedRules, RulesHeld}
 use Rattle.expansions.specs.RuleCells.{leaf≢division, leaf-rule, DivisionRule, division-rule}
 use Rattle.plan.specs.declared.Split.{Split}
 use Rattle.plan.specs.Plan.{lengths, partCell, multiplierCell, lengthsCell, Prepared}
-use Rattle.plan.specs.Plan.{Divides, PartsOf, NoDivision, SplitAt}
+use Rattle.plan.specs.Plan.{arityOf, ShapeAt, Divides, PartsOf, NoDivision, SplitAt}
 use Rattle.plan.specs.Sections.{NotHead}
 use Rattle.plan.specs.PlanLaws.{part-listed}
 
@@ -36,6 +36,12 @@ division-weight (some (division a b ks)) h w k e = cc
 leaf-weight : (o : Option Rule) (h w n : ℕ) → cellOf o ≡ Leaf h w n → w ≡ Option·elim o 0 weightOf
 unfolding Option·elim
 leaf-weight o h w n e = rw (leaf-rule o h w n e)
+
+-- the number of parts in a cell
+division-arity : (o : Option Rule) (h w k : ℕ) → cellOf o ≡ Division h w k → k ≡ arityOf o
+division-arity none h w k e = cc
+division-arity (some (leaf a b n)) h w k e = absurd (leaf≢division _ _ _ _ _ _ e)
+division-arity (some (division a b ks)) h w k e = cc
 
 -- what stands for no division
 abbrev noSplit : Split
@@ -74,6 +80,21 @@ module _ (s : Sheet) (plan : List ℕ) (r : ℕ) (rule : held.Rule) (below : r <
   pub leaf-cost : (h w n : ℕ) → rule ≡ Leaf h w n → multiplierCell plan * w ≡ s .grammar .multiplier * weightAt s r
   unfolding weightAt
   leaf-cost h w n e = rw (p .multiplier) (ap (λ (x : ℕ). s .grammar .multiplier * x) (leaf-weight (ruleAt s r) h w n (cell _ e)))
+
+  -- ---- what it is as a division
+
+  pub division-shape : (h w k : ℕ) → rule ≡ Division h w k → ShapeAt s r (record { head = h; arity = k })
+  division-shape h w k e = record { arity = division-arity (ruleAt s r) h w k (cell _ e); head = same }
+    where
+      same : (q v : ℕ) (ks : List ℕ) → ruleAt s r ≡ some (division q v ks) → h ≡ q
+      same q v ks o = let is : Division h w k ≡ Division q v (length ks) = sym (cell _ e) ∙ ap cellOf o in cc is
+
+  pub leaf-shape : (h w n : ℕ) → rule ≡ Leaf h w n → ShapeAt s r (record { head = 0; arity = 0 })
+  leaf-shape h w n e =
+      record {
+        arity = ap arityOf (sym (leaf-rule (ruleAt s r) h w n (cell _ e)));
+        head = λ q v ks o. absurd (leaf≢division _ _ _ _ _ _ (sym (cell _ e) ∙ ap cellOf o));
+      }
 
   -- ---- how it divides
 

@@ -3,14 +3,15 @@
 use Prim.Native.Nat.{ℕ, _+_, _-_, _*_, _%_, _≤_, _<_}
 use mathlib.Core.Path.{_≡_}
 use mathlib.Core.List.{List, map}
-use mathlib.Core.Option.{some}
+use mathlib.Core.Option.{Option, none, some}
 use lib.ListN.{length, getD}
-use Rattle.sheet.specs.Sheet.{division, Sheet}
+use Rattle.sheet.specs.Sheet.{Rule, division, leaf, Sheet}
 use Rattle.sheet.specs.Good.{GoodRules}
 use Rattle.sheet.specs.Held.{partsOf, childCells}
 use Rattle.trees.specs.ValidTrees.{ruleAt, token}
 use Rattle.sizes.specs.Sizes.{largest, lengthsOf, lengthCount}
 use Rattle.expansions.specs.Tables.{PackedRules}
+use Rattle.plan.specs.declared.Shape.{Shape}
 use Rattle.plan.specs.declared.Split.{Split}
 unfoldable pub use Rattle.plan.specs.Leaves.{ruleCount, leafCost, leastLeaf}
 use Rattle.plan.specs.Packed.{packedLeaf}
@@ -103,6 +104,19 @@ pub record Prepared (s : Sheet) (plan : List ℕ) : Type 0 where
   pub nonterminals : nonterminalsCell plan ≡ s .grammar .nonterminals
   pub lengths-are : lengthsCell plan ≡ lengths s
   pub ways : (r j q w : ℕ) (ks : List ℕ) → ruleAt s r ≡ some (division q w ks) → j < length ks → WaysOf s plan r ks j
+
+-- ---- a rule as a division
+
+-- the number of its parts; 0 where it is no division
+abbrev pub arityOf : Option Rule → ℕ
+arityOf none = 0
+arityOf (some (division h w ks)) = length ks
+arityOf (some (leaf h w n)) = 0
+
+-- what `shape_at` gives
+pub record ShapeAt (s : Sheet) (r : ℕ) (x : Shape) : Type 0 where
+  pub arity : x .arity ≡ arityOf (ruleAt s r)
+  pub head : (q w : ℕ) (ks : List ℕ) → ruleAt s r ≡ some (division q w ks) → x .head ≡ q
 
 -- ---- a rule at a nonterminal and a length
 

@@ -6,7 +6,7 @@ ghost use Rattle.sheet.specs.Sheet.{Sheet};
 ghost use Rattle.trees.specs.ValidTrees.{weightAt};
 ghost use Rattle.plan.specs.Plan.{childCell, leafCell, lengthCell, firstCell, lastCell, savedCell, wayCell};
 ghost use Rattle.plan.specs.Plan.{multiplierCell, nonterminalsCell, lengthsCell};
-ghost use Rattle.plan.specs.Plan.{lengths, Prepared, PartsOf, SplitAt};
+ghost use Rattle.plan.specs.Plan.{lengths, Prepared, ShapeAt, PartsOf, SplitAt};
 
 mod fill;
 mod ways;
@@ -20,6 +20,12 @@ use sheet::Units;
 pub struct Split {
     pub arity: usize,
     pub part: usize,
+}
+
+// A rule as a division: its head, and the number of its parts.
+pub struct Shape {
+    pub head: usize,
+    pub arity: usize,
 }
 
 // The nonterminal of part j of rule r.
@@ -124,8 +130,31 @@ pub fn cost(plan: &[u64; 3055], r: usize) -> u64
     }
 }
 
+// What rule r is as a division: its head and its number of parts; arity 0 where it is none.
+pub fn shape_at(plan: &[u64; 3055], r: usize) -> Shape
+    requires { ⌜ r < 64 ⌝ }
+    ensures { λ x. ⌜ ((s : Sheet) → Prepared s (now (plan .entry)) → ShapeAt s r x) ⌝ }
+{
+    let rule = unpacked(plan[r]);
+    match rule {
+        Rule::Division {
+            head,
+            weight: _,
+            arity,
+        } => Shape {
+            head: head as usize,
+            arity: arity as usize,
+        },
+        Rule::Leaf {
+            head: _,
+            weight: _,
+            n: _,
+        } => Shape { head: 0, arity: 0 },
+    }
+}
+
 // The length with index l in k parts; arity 0 where k is no arity or there is no such length.
-fn split_by(plan: &[u64; 3055], l: usize, k: usize) -> Split
+pub fn split_by(plan: &[u64; 3055], l: usize, k: usize) -> Split
     requires { ⌜ l < 84 ⌝ }
     ensures { λ x. ⌜ (x .arity ≤ 8) × ((s : Sheet) → Prepared s (now (plan .entry)) → PartsOf s l k x) ⌝ }
 {

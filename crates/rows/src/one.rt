@@ -58,21 +58,21 @@ pub fn alone<'a>(
 }
 
 // A leaf of nonterminal q whose only onset is d behind its left bound.
-fn leaf_one(plan: &[u64; 3055], q: usize, len: Units, d: u32) -> Pair
-    requires { ⌜ (q < 16) × (d ≤ len .0) × (len .0 ≤ lastUnit) × ((s : Sheet) × Prepared s (now plan)) ⌝ }
-    ensures { λ x. ⌜ LeafOne (now (plan .entry)) q (len .0) d x ⌝ }
+pub fn leaf_one(plan: &[u64; 3055], q: usize, len: Units, d: Units) -> Pair
+    requires { ⌜ (q < 16) × (d .0 ≤ len .0) × (len .0 ≤ lastUnit) × ((s : Sheet) × Prepared s (now plan)) ⌝ }
+    ensures { λ x. ⌜ LeafOne (now (plan .entry)) q (len .0) (d .0) x ⌝ }
 {
     let n = len.0;
-    if 2 * d < n {
+    if 2 * d.0 < n {
         let w = leaf_cell(plan, q, 1);
-        let x = least(NO_CELL, w + 64 * (d as u64));
+        let x = least(NO_CELL, w + 64 * (d.0 as u64));
         return Pair {
             zero: x,
             one: NO_CELL,
         };
     }
     let w = leaf_cell(plan, q, 0);
-    let x = least(NO_CELL, w + 64 * ((n - d) as u64));
+    let x = least(NO_CELL, w + 64 * ((n - d.0) as u64));
     Pair {
         zero: NO_CELL,
         one: x,
@@ -100,7 +100,7 @@ pub fn solve_one<'a>(
     let len = length(plan, l);
     let d = units[from] - left.0;
     let last = last_division(plan, q);
-    let leaf = leaf_one(plan, q, len, d);
+    let leaf = leaf_one(plan, q, len, Units(d));
     let mut zero = leaf.zero;
     let mut one = leaf.one;
     let mut r = first_division(plan, q);
@@ -112,7 +112,7 @@ pub fn solve_one<'a>(
         let h = split.part;
         if k != 0 {
             let best = Pair { zero, one };
-            let y = rule_one(plan, units, rows, bar, rule, h, left, from, d, best);
+            let y = rule_one(plan, units, rows, bar, rule, h, left, from, Units(d), best);
             zero = y.zero;
             one = y.one;
         }
@@ -136,17 +136,17 @@ fn rule_one<'a>(
     l: usize,
     left: Units,
     from: usize,
-    d: u32,
+    d: Units,
     best: Pair,
 ) -> Pair
-    requires { ⌜ ((s : Sheet) × OneRule s (now plan) (now units) (now rows) bar r l left from d best) ⌝ }
+    requires { ⌜ ((s : Sheet) × OneRule s (now plan) (now units) (now rows) bar r l left from (d .0) best) ⌝ }
     ensures { λ x. ⌜
-        ((s : Sheet) (e : OneRule s (now (plan .entry)) (now (units .entry)) (now (rows .entry)) bar r l left from d best)
+        ((s : Sheet) (e : OneRule s (now (plan .entry)) (now (units .entry)) (now (rows .entry)) bar r l left from (d .0) best)
         → Ruled s (now (rows .exit)) (itemAt s (e .q) (e .whole) left) 0 (r + 1) (pairRow x))
         ⌝ }
 {
     let len = length(plan, l);
-    let i = d / len.0;
+    let i = d.0 / len.0;
     let part = i as usize;
     let q = child(plan, r, part);
     let lo = left.0 + i * len.0;

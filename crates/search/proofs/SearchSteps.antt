@@ -28,6 +28,7 @@ use Rattle.plan.specs.Plan.{lengths, Prepared, nonterminalsCell, lengthsCell}
 use Rattle.rows.specs.MemoLaws.{memo-clear}
 use Rattle.rows.specs.Slots.{slots, slotCell}
 use Rattle.rows.specs.OnsetLaws.{largest-le}
+use Rattle.filling.specs.Order.{ByArity}
 use Rattle.search.specs.declared.Found.{Found}
 use Rattle.search.specs.declared.Found.the-variants.{Tree}
 use Rattle.search.specs.Search.{barsTo, ForwardEntry, Settled, FoundIn, ParseEntry, FoundAs, SearchEntry, Searched}
@@ -43,9 +44,10 @@ module _ {s : Sheet} {plan us rows tree : List ℕ} {start count : ℕ} (h : Par
   tree-most = omega (arith, h .onsets .good .sixty-four, h .onsets .good .most)
 
   -- a table of zeros claims nothing
-  pub parse-forward : {now bytes roots vectors : List ℕ} {n : ℕ} → n ≡ length rows → Table (λ _. 0) rows now n → length roots ≡ 1024
-      → length vectors ≡ 260 → length bytes ≡ 41024 → ForwardEntry s plan us now bytes roots vectors start count
-  parse-forward {now} en t er ev eb = record {
+  pub parse-forward : {now order bytes roots vectors : List ℕ} {n : ℕ} → n ≡ length rows → Table (λ _. 0) rows now n → ByArity s order
+      → length roots ≡ 1024 → length vectors ≡ 260 → length bytes ≡ 41024
+      → ForwardEntry s plan us order now bytes roots vectors start count
+  parse-forward {now} en t ordered er ev eb = record {
     entry = record {
       prepared = h .prepared;
       onsets = h .onsets;
@@ -54,6 +56,7 @@ module _ {s : Sheet} {plan us rows tree : List ℕ} {start count : ℕ} (h : Par
       some-slot = h .some-slot;
       sound = memo-clear (slotCell s) now (slots s) (t .size ∙ h .rows-size) (λ i hi. t .each i (omega (arith, h .rows-size)));
     };
+    ordered = ordered;
     roots-size = omega (arith, er, bars-few);
     vectors-size = omega (arith, ev, bars-few);
     room = omega (arith, eb, tree-most);

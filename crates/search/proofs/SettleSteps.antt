@@ -11,15 +11,18 @@ use Rattle.slices.specs.Over.{over, over-more}
 use Rattle.sheet.specs.Sheet.{Sheet}
 use Rattle.derivations.specs.Minima.{only}
 use Rattle.trees.specs.LeastTotal.{NONE, carries, leastTotal}
+use Rattle.rows.specs.declared.slots.Bar.{Bar}
 use Rattle.rows.specs.Vectors.{vec, Low}
 use Rattle.rows.specs.VectorLaws.{low-eq}
+use Rattle.rows.specs.Slots.{Sound}
 use Rattle.rows.specs.IdleLaws.{Idle}
+use Rattle.filling.specs.Filling.{FillEntry}
 use Rattle.search.specs.declared.Found.the-variants.{NoTree, Tree}
-use Rattle.search.specs.Search.{beforeBars, Shut, Closed, BackEntry, VectorsFrom, BarsBuildEntry, Settled}
+use Rattle.search.specs.Search.{barOf, beforeBars, Shut, Closed, BackEntry, VectorsFrom, BarsBuildEntry, Settled}
 use Rattle.search.specs.Search.{SettledAs, SettleEntry, ForwardEntry, FoundIn}
 use Rattle.search.specs.BarLaws.{before-low, shut-first, total-last}
 use Rattle.search.specs.SettleLaws.{settled-none}
-use Rattle.search.proofs.EnterSteps.{few-bars, at-vec, idle-same}
+use Rattle.search.proofs.EnterSteps.{few-bars, bar-stands, at-vec, idle-same}
 use Rattle.search.proofs.PassSteps.{Forwarded, forward-none}
 
 -- ---- `closed`
@@ -76,8 +79,8 @@ pub record Going (s : Sheet) (rows tree roots : List ℕ) (b : ℕ) (v : List �
 pub forwarded-low : {s : Sheet} {rows roots : List ℕ} {b : ℕ} {v : List ℕ} → Forwarded s rows roots b v → Low v
 forwarded-low {s} {b = b} {v} p = low-eq v (beforeBars s b) (p .is) (before-low s b)
 
-module _ {s : Sheet} {plan us rows tree roots vectors : List ℕ} {start count : ℕ}
-    (h : ForwardEntry s plan us rows tree roots vectors start count) where
+module _ {s : Sheet} {plan us order rows tree roots vectors : List ℕ} {start count : ℕ}
+    (h : ForwardEntry s plan us order rows tree roots vectors start count) where
   pub going-none : {v : List ℕ} → v ≡ vec (only NONE 0) → Going s rows tree roots 0 v 0 0
   going-none ev = record {
     forwarded = forward-none (h .entry) (h .roots-size) ev;
@@ -93,6 +96,22 @@ module _ {s : Sheet} {plan us rows tree roots vectors : List ℕ} {start count :
       record { forwarded = more; rising = omega (arith, p .rising); shut = p .shut; settled = p .settled }
 
   module _ {now tree′ roots′ : List ℕ} {b : ℕ} {v : List ℕ} {done next : ℕ} (p : Going s now tree′ roots′ b v done next) where
+    -- rows of a bar are filled ahead, and the table is as sound
+    pub going-fill : {bar : Bar} → b < count → bar ≡ barOf s b → FillEntry s plan us order now bar
+    going-fill hb eb = record {
+      in-bar = bar-stands s (h .entry .start-is) b (h .entry .prepared) (h .entry .onsets) (omega (arith, h .entry .count-is)) eb .in-bar;
+      ordered = h .ordered;
+      sound = p .forwarded .sound;
+    }
+
+    pub going-filled : {then : List ℕ} → Sound s then → Going s then tree′ roots′ b v done next
+    going-filled sound = record {
+      forwarded = record { roots-are = p .forwarded .roots-are; is = p .forwarded .is; sound = sound };
+      rising = p .rising;
+      shut = p .shut;
+      settled = p .settled;
+    }
+
     total-is : getD v 0 0 ≡ beforeBars s b 0
     total-is = at-vec (beforeBars s b) (p .forwarded .is) 0 (omega arith)
 
@@ -119,7 +138,7 @@ module _ {s : Sheet} {plan us rows tree roots vectors : List ℕ} {start count :
 
     pub going-settled : {then tree″ : List ℕ} {k : ℕ} → Closed s v → SettledAs s then tree″ b k → Going s then tree″ roots′ b v b k
     going-settled closed told = record {
-      forwarded = record { roots-are = p .forwarded .roots-are; is = p .forwarded .is; sound = told .sound };
+      forwarded = going-filled (told .sound) .forwarded;
       rising = omega arith;
       shut = λ c lo hi. idle-same s (λ i. getD v i 0) (beforeBars s b) c total-is (at-vec (beforeBars s b) (p .forwarded .is) c hi)
           (closed .idle c lo hi);

@@ -31,6 +31,7 @@ use Rattle.rows.specs.IdleLaws.{Idle}
 use Rattle.search.specs.declared.Found.{Found}
 use Rattle.search.specs.declared.Found.the-variants.{NoTree, Tree}
 use Rattle.building.specs.Rebuilding.{behind}
+use Rattle.filling.specs.Order.{ByArity}
 
 -- ---- bars
 
@@ -195,8 +196,9 @@ pub record SettleEntry (s : Sheet) (plan units rows tree roots vectors : List �
   pub settled : Settled s tree from n
 
 -- all bars, with tables of the lengths that they need
-pub record ForwardEntry (s : Sheet) (plan units rows tree roots vectors : List ℕ) (start count : ℕ) : Type 0 where
+pub record ForwardEntry (s : Sheet) (plan units order rows tree roots vectors : List ℕ) (start count : ℕ) : Type 0 where
   pub entry : BarsEntry s plan units rows start count
+  pub ordered : ByArity s order
   pub roots-size : 16 * count ≤ length roots
   pub vectors-size : 4 * (count + 1) ≤ length vectors
   pub room : treeBytes s ≤ length tree

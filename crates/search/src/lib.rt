@@ -15,6 +15,8 @@ ghost use Rattle.search.specs.Search.{BeforeEntry, BeforeAs, BackEntry, 
 ghost use Rattle.search.specs.Search.{ForwardEntry, FoundIn, ParseEntry, FoundAs, SearchEntry, Searched};
 use building::build;
 use expansions::pack_units;
+use filling::by_arity;
+use filling::fill_bar;
 use plan::length_count;
 use plan::nonterminals;
 use plan::prepare;
@@ -269,6 +271,7 @@ fn settle<'a>(
 fn forward<'a>(
     plan: &'a [u64; 3055],
     units: &'a [u32; 513],
+    order: &'a [u64; 80],
     rows: &mut [u64],
     tree: &mut [u8],
     roots: &mut [u64],
@@ -277,11 +280,11 @@ fn forward<'a>(
     count: usize,
 ) -> Found
     requires { ⌜
-        ((s : Sheet) × ForwardEntry s (now plan) (now units) (now rows) (now tree) (now roots) (now vectors) start count)
+        ((s : Sheet) × ForwardEntry s (now plan) (now units) (now order) (now rows) (now tree) (now roots) (now vectors) start count)
         ⌝ }
     ensures { λ r. ⌜
         ((s : Sheet)
-        → ForwardEntry s (now (plan .entry)) (now (units .entry)) (now (rows .entry)) (now (tree .entry)) (now (roots .entry))
+        → ForwardEntry s (now (plan .entry)) (now (units .entry)) (now (order .entry)) (now (rows .entry)) (now (tree .entry)) (now (roots .entry))
         (now (vectors .entry)) start count → FoundIn s (now (tree .exit)) r)
         ⌝ }
 {
@@ -292,6 +295,7 @@ fn forward<'a>(
     let mut b: usize = 0;
     while b < count {
         let bar = enter(units, b, slots);
+        fill_bar(plan, units, order, rows, bar);
         let w = pass(plan, units, rows, roots, bar, start, v);
         v = w;
         b += 1;
@@ -363,9 +367,11 @@ fn parse<'a>(
     let mut roots = [0u64; 1024];
     let mut vectors = [0u64; 260];
     let mut bytes = [0u8; 41024];
+    let order = by_arity(plan);
     let found = forward(
         plan,
         units,
+        &order,
         rows,
         &mut bytes,
         &mut roots,

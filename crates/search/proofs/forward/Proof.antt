@@ -9,18 +9,18 @@ use Rattle.sheet.specs.Sheet.{Sheet}
 use Rattle.search.specs.Search.{ForwardEntry}
 use Rattle.search.proofs.EnterSteps.{few-bars, bar-enter}
 use Rattle.search.proofs.PassSteps.{forward-pass, forward-more}
-use Rattle.search.proofs.SettleSteps.{Going, forwarded-low, going-none, going-more, going-settle, going-settled, going-none-found}
-use Rattle.search.proofs.SettleSteps.{going-last, going-found}
+use Rattle.search.proofs.SettleSteps.{Going, forwarded-low, going-none, going-fill, going-filled, going-more, going-settle}
+use Rattle.search.proofs.SettleSteps.{going-settled, going-none-found, going-last, going-found}
 use Rattle.search.proofs.forward.Statement.{statement}
 use Rattle.search.proofs.forward.Tie as tie
 
 abbrev Inv-loop : tie.InvT-loop
-Inv-loop plan units rows₀ tree₀ roots₀ vectors₀ start count slots v₀ done₀ next₀ b₀ rows tree roots vectors v done next b =
+Inv-loop plan units order rows₀ tree₀ roots₀ vectors₀ start count slots v₀ done₀ next₀ b₀ rows tree roots vectors v done next b =
     (b ≤ count) × (length roots ≡ length roots₀) × (length vectors ≡ length vectors₀) × (length tree ≡ length tree₀)
-    × ((s : Sheet) → ForwardEntry s plan units rows₀ tree₀ roots₀ vectors₀ start count → Going s rows tree roots b v done next)
+    × ((s : Sheet) → ForwardEntry s plan units order rows₀ tree₀ roots₀ vectors₀ start count → Going s rows tree roots b v done next)
 
 abbrev μ-loop : tie.MeasureT-loop
-μ-loop plan units rows₀ tree₀ roots₀ vectors₀ start count slots v₀ done₀ next₀ b₀ rows tree roots vectors v done next b =
+μ-loop plan units order rows₀ tree₀ roots₀ vectors₀ start count slots v₀ done₀ next₀ b₀ rows tree roots vectors v done next b =
     count - b
 
 only-at-requires : tie.Need-only-at-requires Inv-loop μ-loop
@@ -40,51 +40,72 @@ enter-requires c κs =
     let h = start .pre .1 in
     (s, bar-enter (h .entry) (loop .b) (loop-test .taken))
 
-pass-requires : tie.Need-pass-requires Inv-loop μ-loop
-pass-requires c κs =
-    let start = c .before .before .before .before .before .before .before .before .before .before in
-    let loop = c .before .before .before .before .loop in
-    let loop-test = c .before .before .before .loop-test in
-    let enter = c .before .before .enter in
+fill-bar-requires : tie.Need-fill-bar-requires Inv-loop μ-loop
+fill-bar-requires c κs =
+    let start = c .before .before .before .before .before .before .before .before .before in
+    let loop = c .before .before .before .loop in
+    let loop-test = c .before .before .loop-test in
+    let enter = c .before .enter in
     let s = start .pre .0 in
     let h = start .pre .1 in
     let so-far = loop .inv .4 s h in
     let is-bar = enter .ensures s (bar-enter (h .entry) (loop .b) (loop-test .taken)) in
-    let entry = forward-pass (h .entry) (so-far .forwarded) (loop-test .taken) is-bar in
+    (s, going-fill h so-far (loop-test .taken) is-bar)
+
+pass-requires : tie.Need-pass-requires Inv-loop μ-loop
+pass-requires c κs =
+    let start = c .before .before .before .before .before .before .before .before .before .before .before .before .before .before in
+    let loop = c .before .before .before .before .before .before .before .before .loop in
+    let loop-test = c .before .before .before .before .before .before .before .loop-test in
+    let enter = c .before .before .before .before .before .before .enter in
+    let fill-bar = c .before .before .before .before .fill-bar in
+    let s = start .pre .0 in
+    let h = start .pre .1 in
+    let so-far = loop .inv .4 s h in
+    let is-bar = enter .ensures s (bar-enter (h .entry) (loop .b) (loop-test .taken)) in
+    let filled = going-filled h so-far (fill-bar .ensures s (going-fill h so-far (loop-test .taken) is-bar)) in
+    let entry = forward-pass (h .entry) (filled .forwarded) (loop-test .taken) is-bar in
     (s, entry .0, entry .1)
 
 add-b : tie.Need-add-b Inv-loop μ-loop
 add-b c =
-    let start = c .before .before .before .before .before .before .before .before .before .before .before .before .before .before .before in
-    let loop-test = c .before .before .before .before .before .before .before .before .loop-test in
+    let start = c .before .before .before .before .before .before .before .before .before .before .before .before .before .before
+    .before .before .before .before .before in
+    let loop-test = c .before .before .before .before .before .before .before .before .before .before .before .before .loop-test in
     let s = start .pre .0 in
     let h = start .pre .1 in
     record { fits = omega (arith, few-bars (h .entry), loop-test .taken) }
 
 closed-requires : tie.Need-closed-requires Inv-loop μ-loop
 closed-requires c κs =
-    let start = c .before .before .before .before .before .before .before .before .before .before .before .before .before .before .before in
-    let loop = c .before .before .before .before .before .before .before .before .before .loop in
-    let loop-test = c .before .before .before .before .before .before .before .before .loop-test in
-    let enter = c .before .before .before .before .before .before .before .enter in
+    let start = c .before .before .before .before .before .before .before .before .before .before .before .before .before .before
+    .before .before .before .before .before in
+    let loop = c .before .before .before .before .before .before .before .before .before .before .before .before .before .loop in
+    let loop-test = c .before .before .before .before .before .before .before .before .before .before .before .before .loop-test in
+    let enter = c .before .before .before .before .before .before .before .before .before .before .before .enter in
+    let fill-bar = c .before .before .before .before .before .before .before .before .before .fill-bar in
     let pass = c .before .before .before .before .pass in
     let s = start .pre .0 in
     let h = start .pre .1 in
     let so-far = loop .inv .4 s h in
     let is-bar = enter .ensures s (bar-enter (h .entry) (loop .b) (loop-test .taken)) in
-    let entry = forward-pass (h .entry) (so-far .forwarded) (loop-test .taken) is-bar in
-    let more = going-more h so-far (forward-more is-bar (pass .ensures s (entry .0) (entry .1))) in
+    let filled = going-filled h so-far (fill-bar .ensures s (going-fill h so-far (loop-test .taken) is-bar)) in
+    let entry = forward-pass (h .entry) (filled .forwarded) (loop-test .taken) is-bar in
+    let more = going-more h filled (forward-more is-bar (pass .ensures s (entry .0) (entry .1))) in
     (forwarded-low (more .forwarded), (s, h .entry .prepared))
 
 settle-requires : tie.Need-settle-requires Inv-loop μ-loop
 settle-requires c κs =
     let start = c .before .before .before .before .before .before .before .before .before .before .before .before .before .before
-    .before .before .before .before .before .before .before in
-    let loop = c .before .before .before .before .before .before .before .before .before .before .before .before .before .before .before
-    .loop in
+    .before .before .before .before .before .before .before .before .before .before .before in
+    let loop = c .before .before .before .before .before .before .before .before .before .before .before .before .before .before
+    .before .before .before .before .before .loop in
     let loop-test = c .before .before .before .before .before .before .before .before .before .before .before .before .before .before
-    .loop-test in
-    let enter = c .before .before .before .before .before .before .before .before .before .before .before .before .before .enter in
+    .before .before .before .before .loop-test in
+    let enter = c .before .before .before .before .before .before .before .before .before .before .before .before .before .before
+    .before .before .before .enter in
+    let fill-bar = c .before .before .before .before .before .before .before .before .before .before .before .before .before .before
+    .before .fill-bar in
     let pass = c .before .before .before .before .before .before .before .before .before .before .pass in
     let closed = c .before .before .before .before .before .closed in
     let if1 = c .before .before .before .before .if1 in
@@ -92,8 +113,9 @@ settle-requires c κs =
     let h = start .pre .1 in
     let so-far = loop .inv .4 s h in
     let is-bar = enter .ensures s (bar-enter (h .entry) (loop .b) (loop-test .taken)) in
-    let entry = forward-pass (h .entry) (so-far .forwarded) (loop-test .taken) is-bar in
-    let more = going-more h so-far (forward-more is-bar (pass .ensures s (entry .0) (entry .1))) in
+    let filled = going-filled h so-far (fill-bar .ensures s (going-fill h so-far (loop-test .taken) is-bar)) in
+    let entry = forward-pass (h .entry) (filled .forwarded) (loop-test .taken) is-bar in
+    let more = going-more h filled (forward-more is-bar (pass .ensures s (entry .0) (entry .1))) in
     let shut = closed .ensures s (h .entry .prepared) (if1 .taken) in
     (s, going-settle h more (omega (arith, loop-test .taken)) (loop .inv .2) (shut .reached))
 
@@ -102,14 +124,16 @@ loop-less c = search needs
 
 loop-again : tie.Need-loop-again Inv-loop μ-loop
 loop-again c =
-    let loop = c .before .before .before .before .before .before .before .before .before .before .before .before .before .before .before
-    .before .before .before .before .before .before .before .loop in
+    let loop = c .before .before .before .before .before .before .before .before .before .before .before .before .before .before
+    .before .before .before .before .before .before .before .before .before .before .before .before .loop in
     let loop-test = c .before .before .before .before .before .before .before .before .before .before .before .before .before .before
-    .before .before .before .before .before .before .before .loop-test in
+    .before .before .before .before .before .before .before .before .before .before .before .loop-test in
     let enter = c .before .before .before .before .before .before .before .before .before .before .before .before .before .before
-    .before .before .before .before .before .before .enter in
-    let pass = c .before .before .before .before .before .before .before .before .before .before .before .before .before .before .before
-    .before .before .pass in
+    .before .before .before .before .before .before .before .before .before .before .enter in
+    let fill-bar = c .before .before .before .before .before .before .before .before .before .before .before .before .before .before
+    .before .before .before .before .before .before .before .before .fill-bar in
+    let pass = c .before .before .before .before .before .before .before .before .before .before .before .before .before .before
+    .before .before .before .pass in
     let closed = c .before .before .before .before .before .before .before .before .before .before .before .before .closed in
     let if1 = c .before .before .before .before .before .before .before .before .before .before .before .if1 in
     let settle = c .before .before .before .before .before .before .settle in (
@@ -120,8 +144,9 @@ loop-again c =
       λ s h.
           let so-far = loop .inv .4 s h in
           let is-bar = enter .ensures s (bar-enter (h .entry) (loop .b) (loop-test .taken)) in
-          let entry = forward-pass (h .entry) (so-far .forwarded) (loop-test .taken) is-bar in
-          let more = going-more h so-far (forward-more is-bar (pass .ensures s (entry .0) (entry .1))) in
+          let filled = going-filled h so-far (fill-bar .ensures s (going-fill h so-far (loop-test .taken) is-bar)) in
+          let entry = forward-pass (h .entry) (filled .forwarded) (loop-test .taken) is-bar in
+          let more = going-more h filled (forward-more is-bar (pass .ensures s (entry .0) (entry .1))) in
           let shut = closed .ensures s (h .entry .prepared) (if1 .taken) in
           let entry-2 = going-settle h more (omega (arith, loop-test .taken)) (loop .inv .2) (shut .reached) in
           going-settled h more shut (settle .ensures s entry-2),
@@ -132,9 +157,12 @@ loop-less-2 c = search needs
 
 loop-again-2 : tie.Need-loop-again-2 Inv-loop μ-loop
 loop-again-2 c =
-    let loop = c .before .before .before .before .before .before .before .before .before .before .before .loop in
-    let loop-test = c .before .before .before .before .before .before .before .before .before .before .loop-test in
-    let enter = c .before .before .before .before .before .before .before .before .before .enter in
+    let loop = c .before .before .before .before .before .before .before .before .before .before .before .before .before .before
+    .before .loop in
+    let loop-test = c .before .before .before .before .before .before .before .before .before .before .before .before .before .before
+    .loop-test in
+    let enter = c .before .before .before .before .before .before .before .before .before .before .before .before .before .enter in
+    let fill-bar = c .before .before .before .before .before .before .before .before .before .before .before .fill-bar in
     let pass = c .before .before .before .before .before .before .pass in (
       omega (arith, loop-test .taken),
       pass .kept .1 .1 .1 .0 ∙ loop .inv .1,
@@ -143,8 +171,9 @@ loop-again-2 c =
       λ s h.
           let so-far = loop .inv .4 s h in
           let is-bar = enter .ensures s (bar-enter (h .entry) (loop .b) (loop-test .taken)) in
-          let entry = forward-pass (h .entry) (so-far .forwarded) (loop-test .taken) is-bar in
-          let more = going-more h so-far (forward-more is-bar (pass .ensures s (entry .0) (entry .1))) in
+          let filled = going-filled h so-far (fill-bar .ensures s (going-fill h so-far (loop-test .taken) is-bar)) in
+          let entry = forward-pass (h .entry) (filled .forwarded) (loop-test .taken) is-bar in
+          let more = going-more h filled (forward-more is-bar (pass .ensures s (entry .0) (entry .1))) in
           more,
     )
 
@@ -247,6 +276,7 @@ forward-spec =
     only-at-requires
     loop-holds
     enter-requires
+    fill-bar-requires
     pass-requires
     add-b
     closed-requires

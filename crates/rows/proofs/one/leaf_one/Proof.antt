@@ -11,14 +11,17 @@ mul-if1 c = search needs
 leaf-cell-requires : tie.Need-leaf-cell-requires
 leaf-cell-requires c κs = search needs
 
+cast-least : tie.Need-cast-least
+cast-least c = search needs
+
 mul-least : tie.Need-mul-least
 mul-least c = search needs
 
 add-least : tie.Need-add-least
 add-least c =
-    let start = c .before .before in
+    let start = c .before .before .before .before in
     let p = start .pre in
-    omega (arith, p .1, p .2, c .leaf-cell .ensures, leaf-cell-most (p .3 .0) _ (p .3 .1) (start .args .q) 1 (p .0) (omega arith))
+    omega (arith, p .1, p .2, c .before .leaf-cell .ensures, leaf-cell-most (p .3 .0) _ (p .3 .1) (start .args .q) 1 (p .0) (omega arith))
 
 least-requires : tie.Need-least-requires
 least-requires c κs = search needs
@@ -32,17 +35,17 @@ leaf-cell-requires-2 c κs = search needs
 sub-least : tie.Need-sub-least
 sub-least c = search needs
 
-cast-least : tie.Need-cast-least
-cast-least c = search needs
+cast-least-2 : tie.Need-cast-least-2
+cast-least-2 c = search needs
 
 mul-least-2 : tie.Need-mul-least-2
 mul-least-2 c = search needs
 
 add-least-2 : tie.Need-add-least-2
 add-least-2 c =
-    let start = c .before .before in
+    let start = c .before .before .before .before in
     let p = start .pre in
-    omega (arith, p .1, p .2, c .leaf-cell2 .ensures, leaf-cell-most (p .3 .0) _ (p .3 .1) (start .args .q) 0 (p .0) (omega arith))
+    omega (arith, p .1, p .2, c .before .leaf-cell2 .ensures, leaf-cell-most (p .3 .0) _ (p .3 .1) (start .args .q) 0 (p .0) (omega arith))
 
 least-requires-2 : tie.Need-least-requires-2
 least-requires-2 c κs = search needs
@@ -56,13 +59,14 @@ leaf-one-spec =
     (tie.spec
     mul-if1
     leaf-cell-requires
+    cast-least
     mul-least
     add-least
     least-requires
     returns
     leaf-cell-requires-2
     sub-least
-    cast-least
+    cast-least-2
     mul-least-2
     add-least-2
     least-requires-2

@@ -37,37 +37,37 @@ module _ (t : ℕ) where
 
   pub div-i : rule-one-lts.Need-div-i calls (rule-one-at t) rule-one.Post
   div-i c =
-      let e = c .before .before .before .pre .1 .1 in
-      let length = c .before .length in
+      let e = c .before .before .before .before .pre .1 .1 in
+      let length = c .before .before .length in
       omega (arith, rule-positive e (length .ensures) refl)
 
   pub cast-part : rule-one-lts.Need-cast-part calls (rule-one-at t) rule-one.Post
   cast-part c =
-      let e = c .before .before .before .pre .1 .1 in
-      omega (arith, rule-child e (c .before .length .ensures) refl .1)
+      let e = c .before .before .before .before .pre .1 .1 in
+      omega (arith, rule-child e (c .before .before .length .ensures) refl .1)
 
   pub child-requires : rule-one-lts.Need-child-requires calls (rule-one-at t) rule-one.Post
   child-requires c κs =
-      let e = c .before .before .before .pre .1 .1 in
-      let length = c .before .length in
+      let e = c .before .before .before .before .pre .1 .1 in
+      let length = c .before .before .length in
       rule-child e (length .ensures) refl
 
   pub mul-lo : rule-one-lts.Need-mul-lo calls (rule-one-at t) rule-one.Post
   mul-lo c =
-      let e = c .before .before .before .before .before .pre .1 .1 in
-      let length = c .before .before .before .length in
-      omega (arith, rule-near e (length .ensures) refl)
-
-  pub add-lo : rule-one-lts.Need-add-lo calls (rule-one-at t) rule-one.Post
-  add-lo c =
       let e = c .before .before .before .before .before .before .pre .1 .1 in
       let length = c .before .before .before .before .length in
       omega (arith, rule-near e (length .ensures) refl)
 
+  pub add-lo : rule-one-lts.Need-add-lo calls (rule-one-at t) rule-one.Post
+  add-lo c =
+      let e = c .before .before .before .before .before .before .before .pre .1 .1 in
+      let length = c .before .before .before .before .before .length in
+      omega (arith, rule-near e (length .ensures) refl)
+
   pub part-one-requires : rule-one-lts.Need-part-one-requires calls (rule-one-at t) rule-one.Post
   part-one-requires c κs =
-      let start = c .before .before .before .before .before .before .before in
-      let length = c .before .before .before .before .before .length in
+      let start = c .before .before .before .before .before .before .before .before in
+      let length = c .before .before .before .before .before .before .length in
       let child = c .before .before .before .child in
       let e = start .pre .1 .1 in
       let part = rule-part e (length .ensures) refl (child .ensures) in
@@ -75,31 +75,32 @@ module _ (t : ℕ) where
 
   pub mul-zero : rule-one-lts.Need-mul-zero calls (rule-one-at t) rule-one.Post
   mul-zero c =
-      let e = c .before .before .before .before .before .before .before .before .before .before .before .pre .1 .1 in
-      let length = c .before .before .before .before .before .before .before .before .before .length in
+      let e = c .before .before .before .before .before .before .before .before .before .before .before .before .pre .1 .1 in
+      let length = c .before .before .before .before .before .before .before .before .before .before .length in
       let child = c .before .before .before .before .before .before .before .child in
       let row = c .before .before .before .part-one .ensures _ (rule-part e (length .ensures) refl (child .ensures)) in
       omega (arith, rule-low e (length .ensures) refl (child .ensures) row .0)
 
   pub mul-one : rule-one-lts.Need-mul-one calls (rule-one-at t) rule-one.Post
   mul-one c =
-      let e = c .before .before .before .before .before .before .before .before .before .before .before .before .pre .1 .1 in
-      let length = c .before .before .before .before .before .before .before .before .before .before .length in
+      let e = c .before .before .before .before .before .before .before .before .before .before .before .before .before .pre .1 .1 in
+      let length = c .before .before .before .before .before .before .before .before .before .before .before .length in
       let child = c .before .before .before .before .before .before .before .before .child in
       let row = c .before .before .before .before .part-one .ensures _ (rule-part e (length .ensures) refl (child .ensures)) in
       omega (arith, rule-low e (length .ensures) refl (child .ensures) row .1)
 
   pub way-requires : rule-one-lts.Need-way-requires calls (rule-one-at t) rule-one.Post
   way-requires c κs =
-      let e = c .before .before .before .before .before .before .before .before .before .before .before .before .pre .1 .1 in
-      let length = c .before .before .before .before .before .before .before .before .before .before .length in
+      let e = c .before .before .before .before .before .before .before .before .before .before .before .before .before .pre .1 .1 in
+      let length = c .before .before .before .before .before .before .before .before .before .before .before .length in
       let asked = rule-child e (length .ensures) refl in
       (asked .0, asked .1, omega arith)
 
   pub add-least : rule-one-lts.Need-add-least calls (rule-one-at t) rule-one.Post
   add-least c =
-      let e = c .before .before .before .before .before .before .before .before .before .before .before .before .before .pre .1 .1 in
-      let length = c .before .before .before .before .before .before .before .before .before .before .before .length in
+      let e = c .before .before .before .before .before .before .before .before .before .before
+      .before .before .before .before .pre .1 .1 in
+      let length = c .before .before .before .before .before .before .before .before .before .before .before .before .length in
       let child = c .before .before .before .before .before .before .before .before .before .child in
       let row = c .before .before .before .before .before .part-one .ensures _ (rule-part e (length .ensures) refl (child .ensures)) in
       let ways = ways-low e (length .ensures) refl (child .ensures) row in
@@ -107,16 +108,17 @@ module _ (t : ℕ) where
 
   pub way-requires-2 : rule-one-lts.Need-way-requires-2 calls (rule-one-at t) rule-one.Post
   way-requires-2 c κs =
-      let e = c .before .before .before .before .before .before .before .before .before .before .before .before .before .pre .1 .1 in
-      let length = c .before .before .before .before .before .before .before .before .before .before .before .length in
+      let e = c .before .before .before .before .before .before .before .before .before .before
+      .before .before .before .before .pre .1 .1 in
+      let length = c .before .before .before .before .before .before .before .before .before .before .before .before .length in
       let asked = rule-child e (length .ensures) refl in
       (asked .0, asked .1, omega arith)
 
   pub add-least-2 : rule-one-lts.Need-add-least-2 calls (rule-one-at t) rule-one.Post
   add-least-2 c =
       let back = c .before .before .before .before .before .before .before .before in
-      let start = back .before .before .before .before .before .before in
-      let length = back .before .before .before .before .length in
+      let start = back .before .before .before .before .before .before .before in
+      let length = back .before .before .before .before .before .length in
       let child = back .before .before .child in
       let part-one = c .before .before .before .before .before .before .part-one in
       let e = start .pre .1 .1 in
@@ -130,8 +132,8 @@ module _ (t : ℕ) where
   pub way-requires-3 : rule-one-lts.Need-way-requires-3 calls (rule-one-at t) rule-one.Post
   way-requires-3 c κs =
       let back = c .before .before .before .before .before .before .before .before in
-      let start = back .before .before .before .before .before .before .before in
-      let length = back .before .before .before .before .before .length in
+      let start = back .before .before .before .before .before .before .before .before in
+      let length = back .before .before .before .before .before .before .length in
       let e = start .pre .1 .1 in
       let asked = rule-child e (length .ensures) refl in
       (asked .0, asked .1, omega arith)
@@ -139,8 +141,8 @@ module _ (t : ℕ) where
   pub add-b : rule-one-lts.Need-add-b calls (rule-one-at t) rule-one.Post
   add-b c =
       let back = c .before .before .before .before .before .before .before .before in
-      let start = back .before .before .before .before .before .before .before .before in
-      let length = back .before .before .before .before .before .before .length in
+      let start = back .before .before .before .before .before .before .before .before .before in
+      let length = back .before .before .before .before .before .before .before .length in
       let child = back .before .before .before .before .child in
       let part-one = c .before .before .before .before .before .before .before .before .part-one in
       let e = start .pre .1 .1 in
@@ -160,7 +162,7 @@ module _ (t : ℕ) where
   pub returns : rule-one-lts.Need-returns calls (rule-one-at t) rule-one.Post
   returns c =
       let back = c .before .before .before .before .before .before .before .before in
-      let length = back .before .before .before .before .before .before .before .before .length in
+      let length = back .before .before .before .before .before .before .before .before .before .length in
       let child = back .before .before .before .before .before .before .child in
       let part-one = back .before .before .part-one in
       let way = c .before .before .before .before .before .way in

@@ -1,0 +1,15 @@
+pub mod Order
+pub mod Filling
+pub mod OrderLaws
+pub mod PutLaws
+pub mod ByArityLaws
+pub mod FallLaws
+pub mod RuleLaws
+pub mod BestLaws
+pub mod LengthLaws
+pub mod KeepLaws
+pub mod LoneLaws
+pub mod AtLaws
+pub mod ArityLaws
+pub mod LeavesLaws
+pub mod OnsetLaws

@@ -1,0 +1,157 @@
+-- What a rule comes to at an interval with one onset, by the cells of the part that has the onset. Assumes nothing.
+use Prim.Native.Nat.{ℕ, _+_, _-_, _*_, _/_, _≤_, _<_, min}
+use mathlib.Core.Path.{_≡_, sym, ap, subst, _∙_}
+use mathlib.Core.List.{List}
+use mathlib.Core.Option.{some}
+use native.Mathlib.Omega.{arith}
+use lib.ListN.{length, getD}
+use Rattle.sheet.specs.declared.clock.Units.{Units}
+use Rattle.sheet.specs.Sheet.{division, Sheet}
+use Rattle.derivations.specs.Derivation.{Item}
+use Rattle.trees.specs.ValidTrees.{ruleAt}
+use Rattle.trees.specs.LeastTotal.{NONE, cellOf}
+use Rattle.expansions.specs.Tables.{lastUnit}
+use Rattle.expansions.specs.Items.{firstAt}
+use Rattle.plan.specs.Plan.{Prepared, lengthAt, childCell, wayCell, WaysOf, Divides}
+use Rattle.plan.specs.PlanLaws.{lengths-most, child-at, straight-most, crossed-most, onward-most}
+use Rattle.rows.specs.declared.one.Pair.{Pair}
+use Rattle.rows.specs.declared.slots.Bar.{Bar}
+use Rattle.rows.specs.OnsetLaws.{unitAt}
+use Rattle.rows.specs.PackedLaws.{packedCell, packed-cell-most, packed-cell-is}
+use Rattle.rows.specs.Slots.{InBar, Stands, Inhabited}
+use Rattle.rows.specs.NameLaws.{stands-near}
+use Rattle.rows.specs.OnePartLaws.{OneAt, one-at}
+use Rattle.rows.specs.OneTurnLaws.{partAt, one-more-zero, one-more-one}
+use Rattle.filling.specs.OrderLaws.{division-below, division-arity}
+use Rattle.filling.specs.Filling.{Lone, RuleEntry, Comes}
+
+-- an interval with one onset stands, under each nonterminal
+module _ {s : Sheet} {plan us : List ℕ} {bar : Bar} {l : ℕ} {left : Units} {from : ℕ} (in-bar : InBar s plan us bar)
+    (lone : Lone s bar l left from) where
+  pub lone-stands : {q : ℕ} → q < s .grammar .nonterminals → Stands s plan us bar q l left from
+  lone-stands {q} h = record {
+    in-bar = in-bar;
+    nonterminal = h;
+    length-in = lone .length-in;
+    aligned = lone .aligned q;
+    first = lone .first;
+  }
+
+  pub lone-near : left .0 + lengthAt s l ≤ lastUnit
+  lone-near = stands-near (lone-stands (in-bar .prepared .good .start))
+
+-- the lesser of two sums, by what they are of
+lesser-one : {x y v w : ℕ} → x ≡ y → v ≡ w → 64 * y + w ≡ x * 64 + v
+lesser-one p q = omega arith
+
+lesser-two : {x y v w x′ y′ v′ w′ : ℕ} → x ≡ y → v ≡ w → x′ ≡ y′ → v′ ≡ w′
+    → min (64 * y + w) (64 * y′ + w′) ≡ min (x * 64 + v) (x′ * 64 + v′)
+lesser-two p q p′ q′ = omega arith
+
+module _ {s : Sheet} {plan pairs : List ℕ} {r h j : ℕ} (e : RuleEntry s plan pairs r h j) where
+  abbrev left : ℕ
+  left = e .known .left .0
+
+  abbrev parts : List ℕ
+  parts = e .rule .parts
+
+  abbrev planned : Prepared s plan
+  planned = e .known .in-bar .prepared
+
+  rule-is : ruleAt s r ≡ some (division (e .rule .head) (e .rule .weight) parts)
+  rule-is = e .rule .rule
+
+  -- part j has the onset
+  there : OneAt s left (lengthAt s h) (length parts) j
+  there =
+      subst (OneAt s left (lengthAt s h) (length parts)) (sym is)
+      (one-at s (e .known .in-bar .onsets .good) left (lengthAt s (e .known .l)) (lone-near (e .known .in-bar) (e .known .lone))
+      (e .known .lone .one) (lengthAt s h) (length parts)
+      (e .known .whole ∙ ap (λ (n : ℕ). n * lengthAt s h) (sym (e .rule .count))))
+    where
+      is : j ≡ (unitAt s (firstAt s left) - left) / lengthAt s h
+      is = e .known .part ∙ ap (λ (i : ℕ). (unitAt s i - left) / lengthAt s h) (e .known .lone .first)
+
+  pub rule-asked : (r < 64) × (j < 8)
+  rule-asked =
+      (division-below planned (e .rule), omega (arith, there .within, e .rule .count, division-arity planned (e .rule) .1))
+
+  abbrev divides : Divides s (e .rule .head) (e .known .l) r (e .k) h
+  divides = record {
+    weight = e .rule .weight;
+    parts = parts;
+    rule = rule-is;
+    count = e .rule .count;
+    shorter = e .known .part-in;
+    whole = e .known .whole;
+  }
+
+  pub ways-low : (wayCell plan r j 0 ≤ 64 * NONE + 63) × (wayCell plan r j 1 ≤ 64 * NONE + 63) × (wayCell plan r j 2 ≤ 64 * NONE + 63)
+  ways-low = (
+    straight-most s plan planned r j (e .rule .head) (e .rule .weight) parts rule-is (there .within),
+    crossed-most s plan planned r j (e .rule .head) (e .rule .weight) parts rule-is (there .within),
+    onward-most s plan planned r j (e .rule .head) (e .rule .weight) parts rule-is (there .within),
+  )
+
+  module _ {q : ℕ} (eq : q ≡ childCell plan r j) where
+    child-is : q ≡ getD parts j 0
+    child-is = eq ∙ child-at s plan planned r (e .rule .head) (e .rule .weight) parts rule-is j (there .within)
+
+    child-used : q < e .u
+    child-used =
+        omega (
+          arith,
+          child-is,
+          e .known .used .part r (e .rule .head) (e .rule .weight) parts (rule-asked .0) rule-is j (there .within),
+        )
+
+    -- its cells stand in the scratch array
+    pub rule-place : 32 * h + 2 * q + 1 < length pairs
+    rule-place =
+        omega (arith, child-used, e .known .used .most, planned .good .sixteen, e .known .part-in, lengths-most s, e .known .size)
+
+    abbrev part : Item
+    part = partAt left (lengthAt s h) parts j
+
+    cell-is : (m : ℕ) → m < 2 → getD pairs (32 * h + 2 * q + m) 0 ≡ packedCell s part 0 m
+    cell-is m k =
+        e .known .cell q m child-used k
+        ∙ ap (λ (n : ℕ). packedCell s (record { nonterminal = n; left = left + j * lengthAt s h; len = lengthAt s h }) 0 m) child-is
+
+    zeroth-is : getD pairs (32 * h + 2 * q) 0 ≡ packedCell s part 0 0
+    zeroth-is = ap (λ (i : ℕ). getD pairs i 0) (omega arith) ∙ cell-is 0 (omega arith)
+
+    pub cells-low : (getD pairs (32 * h + 2 * q) 0 ≤ 64 * NONE) × (getD pairs (32 * h + 2 * q + 1) 0 ≤ 64 * NONE)
+    cells-low = (
+      omega (arith, zeroth-is, packed-cell-most s part 0 0),
+      omega (arith, cell-is 1 (omega arith), packed-cell-most s part 0 1),
+    )
+
+    total : (m x : ℕ) → m < 4 → x ≡ packedCell s part 0 m → x / 64 ≡ cellOf s part 0 m
+    total m x k is = ap (λ (n : ℕ). n / 64) is ∙ packed-cell-is s (planned .good) part 0 m (omega arith) k
+
+    zero-total : getD pairs (32 * h + 2 * q) 0 / 64 ≡ cellOf s part 0 0
+    zero-total = total 0 _ (omega arith) zeroth-is
+
+    one-total : getD pairs (32 * h + 2 * q + 1) 0 / 64 ≡ cellOf s part 0 1
+    one-total = total 1 _ (omega arith) (cell-is 1 (omega arith))
+
+    ways : WaysOf s plan r parts j
+    ways = planned .ways r j (e .rule .head) (e .rule .weight) parts rule-is (there .within)
+
+    inhabited : Inhabited s (e .known .l) (e .known .left)
+    inhabited = omega (arith, e .known .lone .one)
+
+    -- what the rule comes to
+    module _ {w0 w1 w2 : ℕ} (e0 : w0 ≡ wayCell plan r j 0) (e1 : w1 ≡ wayCell plan r j 1) (e2 : w2 ≡ wayCell plan r j 2) where
+      pub rule-told : {x : Pair}
+          → x .zero ≡ min (getD pairs (32 * h + 2 * q) 0 / 64 * 64 + w0) (getD pairs (32 * h + 2 * q + 1) 0 / 64 * 64 + w1)
+          → x .one ≡ getD pairs (32 * h + 2 * q + 1) 0 / 64 * 64 + w2 → Comes s (e .rule .head) (e .known .l) (e .known .left) r x
+      rule-told {x} ez eo = record {
+        zeroth =
+            one-more-zero s (planned .good) (e .rule .head) (e .known .l) (e .known .left) divides inhabited there
+            ∙ ap (min _) (lesser-two zero-total (e0 ∙ ways .straight) one-total (e1 ∙ ways .crossed) ∙ sym ez);
+        first =
+            one-more-one s (planned .good) (e .rule .head) (e .known .l) (e .known .left) divides inhabited there
+            ∙ ap (min _) (lesser-one one-total (e2 ∙ ways .onward) ∙ sym eo);
+      }

@@ -1,0 +1,251 @@
+// Filling the rows of a bar's intervals with one onset: cells 0 and 1 of each, from carry state 0.
+ghost use mathlib.Core.Path.{_≡_};
+ghost use Prim.Native.Nat.{_+_, _≤_, _<_};
+ghost use lib.ListN.{length};
+ghost use Rattle.sheet.specs.Sheet.{Sheet};
+ghost use Rattle.expansions.specs.Tables.{lastUnit};
+ghost use Rattle.plan.specs.Plan.{Prepared};
+ghost use Rattle.rows.specs.Slots.{Sound};
+ghost use Rattle.filling.specs.Order.{usedIn};
+ghost use Rattle.filling.specs.Filling.{FillEntry, LoneBy, LeavesTo, RuleEntry, Comes, ArityEntry, Best, LengthEntry, Solved};
+ghost use Rattle.filling.specs.Filling.{KeepEntry, KeptTo, AtEntry, FilledAt, OnsetEntry, OnsetFilled};
+use plan::child;
+use plan::length;
+use plan::length_count;
+use plan::split_by;
+use plan::way;
+use rows::one::Pair;
+use rows::one::leaf_one;
+use rows::slots::Bar;
+use rows::slots::place_of;
+use rows::slots::store;
+use rows::vector::NO_CELL;
+use rows::vector::least;
+use sheet::Units;
+
+// Whether no onset beside that at place `from` lies between `left` and `right`; `first` is the place of the bar's first.
+fn lone(units: &[u32; 513], first: usize, from: usize, left: Units, right: Units) -> bool
+    requires { ⌜ (first ≤ from) × (from < 512) ⌝ }
+    ensures { λ x. ⌜ LoneBy (now (units .entry)) first from (left .0) (right .0) x ⌝ }
+{
+    if units[from + 1] < right.0 {
+        return false;
+    }
+    if from == first {
+        return true;
+    }
+    if units[from - 1] < left.0 {
+        return true;
+    }
+    false
+}
+
+// Cells 0 and 1 of the leaves of the first `used` nonterminals, where the only onset is d behind the left bound.
+fn fill_leaves(plan: &[u64; 3055], best: &mut [u64], used: usize, len: Units, d: Units)
+    requires { ⌜
+        (used ≤ 16) × (length (now best) ≡ 32) × (d .0 ≤ len .0) × (len .0 ≤ lastUnit) × ((s : Sheet) × Prepared s (now plan))
+        ⌝ }
+    ensures { λ _. ⌜ LeavesTo (now (plan .entry)) (now (best .exit)) (len .0) (d .0) used ⌝ }
+{
+    let mut q: usize = 0;
+    while q < used {
+        let y = leaf_one(plan, q, len, d);
+        best[2 * q] = y.zero;
+        best[2 * q + 1] = y.one;
+        q += 1;
+    }
+}
+
+// What rule r comes to, where its part j, of the length with index h, has the onset.
+fn rule_pair<'a>(plan: &'a [u64; 3055], pairs: &'a [u64], r: usize, h: usize, j: usize) -> Pair
+    requires { ⌜ ((s : Sheet) × RuleEntry s (now plan) (now pairs) r h j) ⌝ }
+    ensures { λ x. ⌜
+        ((s : Sheet) (e : RuleEntry s (now (plan .entry)) (now (pairs .entry)) r h j)
+        → Comes s (e .rule .head) (e .known .l) (e .known .left) r x)
+        ⌝ }
+{
+    let at = 32 * h + 2 * child(plan, r, j);
+    let zero = pairs[at] / 64 * 64;
+    let one = pairs[at + 1] / 64 * 64;
+    let a = least(zero + way(plan, r, j, 0), one + way(plan, r, j, 1));
+    Pair {
+        zero: a,
+        one: one + way(plan, r, j, 2),
+    }
+}
+
+// Lowers the cells by the rules of k parts, where part j, of the length with index h, has the onset.
+fn fill_arity<'a>(
+    plan: &'a [u64; 3055],
+    order: &'a [u64; 80],
+    pairs: &'a [u64],
+    best: &mut [u64],
+    k: usize,
+    h: usize,
+    j: usize,
+)
+    requires { ⌜ ((s : Sheet) × ArityEntry s (now plan) (now order) (now pairs) (now best) k h j) ⌝ }
+    ensures { λ _. ⌜
+        ((s : Sheet) (e : ArityEntry s (now (plan .entry)) (now (order .entry)) (now (pairs .entry)) (now (best .entry)) k h j)
+        → Best s (now (order .entry)) (now (best .exit)) (e .known .l) (e .known .left) (k + 1))
+        ⌝ }
+{
+    let end = order[65 + k] as usize;
+    let mut n = order[64 + k] as usize;
+    while n < end {
+        let x = order[n];
+        n += 1;
+        let q = 2 * ((x / 64) as usize);
+        let y = rule_pair(plan, pairs, (x % 64) as usize, h, j);
+        best[q] = least(best[q], y.zero);
+        best[q + 1] = least(best[q + 1], y.one);
+    }
+}
+
+// Lowers the cells of the leaves of an interval, of the length with index l, by all rules; the only onset is d behind its left bound.
+fn fill_length<'a>(
+    plan: &'a [u64; 3055],
+    order: &'a [u64; 80],
+    pairs: &'a [u64],
+    best: &mut [u64],
+    l: usize,
+    d: Units,
+)
+    requires { ⌜ ((s : Sheet) × LengthEntry s (now plan) (now order) (now pairs) (now best) l (d .0)) ⌝ }
+    ensures { λ _. ⌜
+        ((s : Sheet) (e : LengthEntry s (now (plan .entry)) (now (order .entry)) (now (pairs .entry)) (now (best .entry)) l (d .0))
+        → Solved s (now (order .entry)) (now (best .exit)) l (e .left))
+        ⌝ }
+{
+    let mut k: usize = 2;
+    while k < 9 {
+        let arity = k;
+        k += 1;
+        let split = split_by(plan, l, arity);
+        if split.arity != 0 {
+            let h = split.part;
+            let len = length(plan, h);
+            let j = (d.0 / len.0) as usize;
+            fill_arity(plan, order, pairs, best, arity, h, j);
+        }
+    }
+}
+
+// Stores the cells of an interval: beside those of shorter ones, and in the table.
+fn keep<'a>(
+    plan: &'a [u64; 3055],
+    order: &'a [u64; 80],
+    rows: &mut [u64],
+    pairs: &mut [u64],
+    best: &[u64],
+    bar: Bar,
+    l: usize,
+    from: usize,
+)
+    requires { ⌜ ((s : Sheet) × KeepEntry s (now plan) (now order) (now rows) (now pairs) (now best) bar l from) ⌝ }
+    ensures { λ _. ⌜
+        ((s : Sheet)
+        → KeepEntry s (now (plan .entry)) (now (order .entry)) (now (rows .entry)) (now (pairs .entry)) (now (best .entry)) bar l from
+        → KeptTo s (now (rows .exit)) (now (pairs .entry)) (now (pairs .exit)) (now (best .entry)) l (usedIn (now (order .entry))))
+        ⌝ }
+{
+    let used = order[74] as usize;
+    let mut q: usize = 0;
+    while q < used {
+        let zero = best[2 * q];
+        let one = best[2 * q + 1];
+        let at = place_of(plan, bar, q, l, from, 0);
+        pairs[32 * l + 2 * q] = zero;
+        pairs[32 * l + 2 * q + 1] = one;
+        store(
+            rows,
+            at,
+            [zero, one, NO_CELL, NO_CELL],
+            (bar.number as u64) + 1,
+        );
+        q += 1;
+    }
+}
+
+// Stores the rows of the interval of the length with index l around the onset at place `from`, where it is the only one inside.
+fn fill_at<'a>(
+    plan: &'a [u64; 3055],
+    units: &'a [u32; 513],
+    order: &'a [u64; 80],
+    rows: &mut [u64],
+    pairs: &mut [u64],
+    best: &mut [u64],
+    bar: Bar,
+    from: usize,
+    l: usize,
+)
+    requires { ⌜ ((s : Sheet) × AtEntry s (now plan) (now units) (now order) (now rows) (now pairs) (now best) bar from l) ⌝ }
+    ensures { λ _. ⌜
+        ((s : Sheet)
+        → AtEntry s (now (plan .entry)) (now (units .entry)) (now (order .entry)) (now (rows .entry)) (now (pairs .entry))
+        (now (best .entry)) bar from l
+        → FilledAt s (now (order .entry)) (now (rows .exit)) (now (pairs .exit)) (now (best .exit)) bar from l)
+        ⌝ }
+{
+    let len = length(plan, l);
+    let unit = units[from];
+    let d = (unit - 20160 * (bar.number as u32)) % len.0;
+    let left = unit - d;
+    let right = left + len.0;
+    if lone(units, bar.first, from, Units(left), Units(right)) {
+        fill_leaves(plan, best, order[74] as usize, len, Units(d));
+        fill_length(plan, order, &pairs[..], best, l, Units(d));
+        keep(plan, order, rows, pairs, &best[..], bar, l, from);
+    }
+}
+
+// Stores the rows of the intervals in which the onset at place `from` is the only one.
+fn fill_onset<'a>(
+    plan: &'a [u64; 3055],
+    units: &'a [u32; 513],
+    order: &'a [u64; 80],
+    rows: &mut [u64],
+    pairs: &mut [u64],
+    bar: Bar,
+    from: usize,
+)
+    requires { ⌜ ((s : Sheet) × OnsetEntry s (now plan) (now units) (now order) (now rows) (now pairs) bar from) ⌝ }
+    ensures { λ _. ⌜
+        ((s : Sheet)
+        → OnsetEntry s (now (plan .entry)) (now (units .entry)) (now (order .entry)) (now (rows .entry)) (now (pairs .entry)) bar from
+        → OnsetFilled s (now (rows .exit)) (now (pairs .exit)))
+        ⌝ }
+{
+    let mut best = [0; 32];
+    let mut l = length_count(plan);
+    while 0 < l {
+        l -= 1;
+        fill_at(plan, units, order, rows, pairs, &mut best, bar, from, l);
+    }
+}
+
+// Stores the rows of all intervals of a bar that have one onset, from carry state 0, where that is worth it.
+pub fn fill_bar<'a>(
+    plan: &'a [u64; 3055],
+    units: &'a [u32; 513],
+    order: &'a [u64; 80],
+    rows: &mut [u64],
+    bar: Bar,
+)
+    requires { ⌜ ((s : Sheet) × FillEntry s (now plan) (now units) (now order) (now rows) bar) ⌝ }
+    ensures { λ _. ⌜
+        ((s : Sheet) → FillEntry s (now (plan .entry)) (now (units .entry)) (now (order .entry)) (now (rows .entry)) bar
+        → Sound s (now (rows .exit)))
+        ⌝ }
+{
+    if order[75] != 1 {
+        return;
+    }
+    let end = 20160 * (bar.number as u32) + 20160;
+    let mut pairs = [0; 2688];
+    let mut i = bar.first;
+    while units[i] < end {
+        fill_onset(plan, units, order, rows, &mut pairs, bar, i);
+        i += 1;
+    }
+}
