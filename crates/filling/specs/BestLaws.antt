@@ -7,8 +7,7 @@ use mathlib.Core.Option.{Option, none, some, Option·none-ne-some}
 use native.Mathlib.Nat.{add-zero}
 use native.Mathlib.Decide.{decLt, ℕ-discrete}
 use native.Mathlib.Omega.{arith}
-use lib.ListN.{length, set, getD, length-set}
-use lib.Seq.{getD-set-same, getD-set-other}
+use lib.ListN.{length, getD}
 use Rattle.sheet.specs.declared.clock.Units.{Units}
 use Rattle.sheet.specs.Sheet.{Rule, division, leaf, Sheet}
 use Rattle.sheet.specs.Good.{GoodRules}
@@ -23,6 +22,7 @@ use Rattle.rows.specs.PackedLaws.{packedCell}
 use Rattle.rows.specs.PackedTurnLaws.{packedTo, packed-all, packed-idle}
 use Rattle.rows.specs.Slots.{itemAt}
 use Rattle.filling.specs.Order.{firstOf, usedIn, ByArity}
+use Rattle.filling.specs.Pairs.{pairAt, putPair, lesserPair, put-size, put-other, put-zeroth, put-first}
 use Rattle.filling.specs.OrderLaws.{is-division, division-below}
 use Rattle.filling.specs.Filling.{Met, Best, Solved, Comes, ArityTo}
 
@@ -53,81 +53,79 @@ met-lower low met = record { low = λ q w ks rule m h. omega (arith, low (2 * q 
 
 module _ {s : Sheet} {order best : List ℕ} {l : ℕ} {left : Units} {k : ℕ} (b : Best s order best l left k) (good : GoodRules (s .grammar))
     (few : usedIn order ≤ 16) {q r : ℕ} {y : Pair} (used : q < usedIn order) (below : r < ruleCount s) (c : Comes s q l left r y) where
-  module _ {v w : ℕ} (ev : v ≡ min (getD best (2 * q) 0) (y .zero)) (ew : w ≡ min (getD (set best (2 * q) v) (2 * q + 1) 0) (y .one)) where
-    abbrev half : List ℕ
-    half = set best (2 * q) v
+  -- the cells of q lowered to those of y
+  abbrev lowered : Pair
+  lowered = lesserPair (pairAt best (2 * q)) y
 
-    abbrev less : List ℕ
-    less = set half (2 * q + 1) w
+  abbrev less : List ℕ
+  less = putPair best (2 * q) lowered
 
-    half-size : length half ≡ 32
-    half-size = length-set best (2 * q) v ∙ b .size
+  room : 2 * q + 1 < length best
+  room = omega (arith, b .size)
 
-    kept : (i : ℕ) → (i ≡ 2 * q → ⊥) → (i ≡ 2 * q + 1 → ⊥) → getD less i 0 ≡ getD best i 0
-    kept i m n = getD-set-other half (2 * q + 1) i w 0 n ∙ getD-set-other best (2 * q) i v 0 m
+  kept : (i : ℕ) → (i ≡ 2 * q → ⊥) → (i ≡ 2 * q + 1 → ⊥) → getD less i 0 ≡ getD best i 0
+  kept = put-other best (2 * q) lowered
 
-    zeroth : getD less (2 * q) 0 ≡ v
-    zeroth =
-        getD-set-other half (2 * q + 1) (2 * q) w 0 (λ e. omega arith) ∙ getD-set-same best (2 * q) v 0 (omega (arith, b .size))
+  zeroth : getD less (2 * q) 0 ≡ min (getD best (2 * q) 0) (y .zero)
+  zeroth = put-zeroth best (2 * q) lowered room
 
-    first : getD less (2 * q + 1) 0 ≡ w
-    first = getD-set-same half (2 * q + 1) w 0 (omega (arith, half-size))
+  first : getD less (2 * q + 1) 0 ≡ min (getD best (2 * q + 1) 0) (y .one)
+  first = put-first best (2 * q) lowered room
 
-    first-was : getD half (2 * q + 1) 0 ≡ getD best (2 * q + 1) 0
-    first-was = getD-set-other best (2 * q) (2 * q + 1) v 0 (λ e. omega arith)
-
-    low : (i : ℕ) → getD less i 0 ≤ getD best i 0
-    low i = elim (ℕ-discrete i (2 * q)) [
-      | yes e ↦ rw e (omega (arith, zeroth))
-      | no m ↦ elim (ℕ-discrete i (2 * q + 1)) [
-        | yes e ↦ rw e (omega (arith, first, first-was))
-        | no n ↦ omega (arith, kept i m n)
-      ]
+  low : (i : ℕ) → getD less i 0 ≤ getD best i 0
+  low i = elim (ℕ-discrete i (2 * q)) [
+    | yes e ↦ rw e (omega (arith, zeroth))
+    | no m ↦ elim (ℕ-discrete i (2 * q + 1)) [
+      | yes e ↦ rw e (omega (arith, first))
+      | no n ↦ omega (arith, kept i m n)
     ]
+  ]
 
-    abbrev g : Item
-    g = itemAt s q l left
+  abbrev g : Item
+  g = itemAt s q l left
 
-    own-least : (m : ℕ) → m < 2 → packedCell s g 0 m ≤ getD less (2 * q + m) 0
-    own-least zero h =
-        let here : getD less (2 * q + 0) 0 ≡ v = ap (λ (i : ℕ). getD less i 0) (add-zero (2 * q)) ∙ zeroth in
-        let was : getD best (2 * q + 0) 0 ≡ getD best (2 * q) 0 = ap (λ (i : ℕ). getD best i 0) (add-zero (2 * q)) in
-        omega (arith, here, was, b .least q 0 used h, c .zeroth, packed-least s good g (r + 1) 0 (omega arith) (omega arith))
-    own-least (suc zero) h =
-        omega (arith, first, first-was, b .least q 1 used h, c .first, packed-least s good g (r + 1) 1 (omega arith) (omega arith))
-    own-least (suc (suc m)) h = let no-more : ⊥ = omega arith in absurd no-more
+  own-least : (m : ℕ) → m < 2 → packedCell s g 0 m ≤ getD less (2 * q + m) 0
+  own-least zero h =
+      let here : getD less (2 * q + 0) 0 ≡ min (getD best (2 * q) 0) (y .zero) =
+      ap (λ (i : ℕ). getD less i 0) (add-zero (2 * q)) ∙ zeroth in
+      let was : getD best (2 * q + 0) 0 ≡ getD best (2 * q) 0 = ap (λ (i : ℕ). getD best i 0) (add-zero (2 * q)) in
+      omega (arith, here, was, b .least q 0 used h, c .zeroth, packed-least s good g (r + 1) 0 (omega arith) (omega arith))
+  own-least (suc zero) h =
+      omega (arith, first, b .least q 1 used h, c .first, packed-least s good g (r + 1) 1 (omega arith) (omega arith))
+  own-least (suc (suc m)) h = let no-more : ⊥ = omega arith in absurd no-more
 
-    own-met : (m : ℕ) → m < 2 → min (packedTo s g 0 r m) (getD less (2 * q + m) 0) ≤ packedTo s g 0 (r + 1) m
-    own-met zero h =
-        let here : getD less (2 * q + 0) 0 ≡ v = ap (λ (i : ℕ). getD less i 0) (add-zero (2 * q)) ∙ zeroth in
-        omega (arith, here, c .zeroth)
-    own-met (suc zero) h = omega (arith, first, c .first)
-    own-met (suc (suc m)) h = let no-more : ⊥ = omega arith in absurd no-more
+  own-met : (m : ℕ) → m < 2 → min (packedTo s g 0 r m) (getD less (2 * q + m) 0) ≤ packedTo s g 0 (r + 1) m
+  own-met zero h =
+      let here : getD less (2 * q + 0) 0 ≡ min (getD best (2 * q) 0) (y .zero) =
+      ap (λ (i : ℕ). getD less i 0) (add-zero (2 * q)) ∙ zeroth in
+      omega (arith, here, c .zeroth)
+  own-met (suc zero) h = omega (arith, first, c .first)
+  own-met (suc (suc m)) h = let no-more : ⊥ = omega arith in absurd no-more
 
-    least : (p m : ℕ) → p < usedIn order → m < 2 → packedCell s (itemAt s p l left) 0 m ≤ getD less (2 * p + m) 0
-    least p m hp hm = elim (ℕ-discrete p q) [
-      | yes e ↦ rw e (own-least m hm)
-      | no n ↦ omega (arith, kept (2 * p + m) (λ e. n (omega arith)) (λ e. n (omega arith)), b .least p m hp hm)
-    ]
+  least : (p m : ℕ) → p < usedIn order → m < 2 → packedCell s (itemAt s p l left) 0 m ≤ getD less (2 * p + m) 0
+  least p m hp hm = elim (ℕ-discrete p q) [
+    | yes e ↦ rw e (own-least m hm)
+    | no n ↦ omega (arith, kept (2 * p + m) (λ e. n (omega arith)) (λ e. n (omega arith)), b .least p m hp hm)
+  ]
 
-    -- the cells of the rule's head, lowered by what the rule comes to
-    pub best-more : Best s order less l left k
-    best-more = record {
-      size = length-set half (2 * q + 1) w ∙ half-size;
-      least = least;
-      leaf = λ p m hp hm. omega (arith, low (2 * p + m), b .leaf p m hp hm);
-      met = λ i h. met-lower low (b .met i h);
-    }
+  -- the cells of the rule's head, lowered by what the rule comes to
+  pub best-more : Best s order less l left k
+  best-more = record {
+    size = put-size best (2 * q) lowered ∙ b .size;
+    least = least;
+    leaf = λ p m hp hm. omega (arith, low (2 * p + m), b .leaf p m hp hm);
+    met = λ i h. met-lower low (b .met i h);
+  }
 
-    pub rule-met : (a : ℕ) (ks : List ℕ) → ruleAt s r ≡ some (division q a ks) → Met s less l left r
-    rule-met a ks is = record { low = each }
-      where
-        each : (p w′ : ℕ) (ks′ : List ℕ) → ruleAt s r ≡ some (division p w′ ks′) → (m : ℕ) → m < 2
-            → min (packedTo s (itemAt s p l left) 0 r m) (getD less (2 * p + m) 0) ≤ packedTo s (itemAt s p l left) 0 (r + 1) m
-        each p w′ ks′ rule m h = let same : p ≡ q = cc (sym rule ∙ is) in rw same (own-met m h)
+  pub rule-met : (a : ℕ) (ks : List ℕ) → ruleAt s r ≡ some (division q a ks) → Met s less l left r
+  rule-met a ks is = record { low = each }
+    where
+      each : (p w′ : ℕ) (ks′ : List ℕ) → ruleAt s r ≡ some (division p w′ ks′) → (m : ℕ) → m < 2
+          → min (packedTo s (itemAt s p l left) 0 r m) (getD less (2 * p + m) 0) ≤ packedTo s (itemAt s p l left) 0 (r + 1) m
+      each p w′ ks′ rule m h = let same : p ≡ q = cc (sym rule ∙ is) in rw same (own-met m h)
 
-    pub best-lower : {i : ℕ} → Met s best l left i → Met s less l left i
-    best-lower met = met-lower low met
+  pub best-lower : {i : ℕ} → Met s best l left i → Met s less l left i
+  best-lower met = met-lower low met
 
 -- ---- all rules
 

@@ -1,4 +1,5 @@
 pub mod Order
+pub mod Pairs
 pub mod Filling
 pub mod OrderLaws
 pub mod PutLaws

@@ -23,6 +23,7 @@ use Rattle.rows.specs.NameLaws.{stands-near}
 use Rattle.rows.specs.OnePartLaws.{OneAt, one-at}
 use Rattle.rows.specs.OneTurnLaws.{partAt, one-more-zero, one-more-one}
 use Rattle.filling.specs.OrderLaws.{division-below, division-arity}
+use Rattle.filling.specs.Pairs.{pairAt, cellIn, pair-cell}
 use Rattle.filling.specs.Filling.{Lone, RuleEntry, Comes}
 
 -- an interval with one onset stands, under each nonterminal
@@ -106,9 +107,11 @@ module _ {s : Sheet} {plan pairs : List ℕ} {r h j : ℕ} (e : RuleEntry s plan
         )
 
     -- its cells stand in the scratch array
-    pub rule-place : 32 * h + 2 * q + 1 < length pairs
+    pub rule-place : (32 * h + 2 * q + 1 < length pairs) × (32 * h + 2 * q + 1 < 2688)
     rule-place =
-        omega (arith, child-used, e .known .used .most, planned .good .sixteen, e .known .part-in, lengths-most s, e .known .size)
+        let below : 32 * h + 2 * q + 1 < 2688 =
+        omega (arith, child-used, e .known .used .most, planned .good .sixteen, e .known .part-in, lengths-most s) in
+        (omega (arith, below, e .known .size), below)
 
     abbrev part : Item
     part = partAt left (lengthAt s h) parts j
@@ -118,40 +121,41 @@ module _ {s : Sheet} {plan pairs : List ℕ} {r h j : ℕ} (e : RuleEntry s plan
         e .known .cell q m child-used k
         ∙ ap (λ (n : ℕ). packedCell s (record { nonterminal = n; left = left + j * lengthAt s h; len = lengthAt s h }) 0 m) child-is
 
-    zeroth-is : getD pairs (32 * h + 2 * q) 0 ≡ packedCell s part 0 0
-    zeroth-is = ap (λ (i : ℕ). getD pairs i 0) (omega arith) ∙ cell-is 0 (omega arith)
+    module _ {y : Pair} (ey : y ≡ pairAt pairs (32 * h + 2 * q)) where
+      pair-is : (m : ℕ) → m < 2 → cellIn y m ≡ packedCell s part 0 m
+      pair-is m k = ap (λ (z : Pair). cellIn z m) ey ∙ pair-cell pairs (32 * h + 2 * q) m k ∙ cell-is m k
 
-    pub cells-low : (getD pairs (32 * h + 2 * q) 0 ≤ 64 * NONE) × (getD pairs (32 * h + 2 * q + 1) 0 ≤ 64 * NONE)
-    cells-low = (
-      omega (arith, zeroth-is, packed-cell-most s part 0 0),
-      omega (arith, cell-is 1 (omega arith), packed-cell-most s part 0 1),
-    )
+      pub cells-low : (y .zero ≤ 64 * NONE) × (y .one ≤ 64 * NONE)
+      cells-low = (
+        omega (arith, pair-is 0 (omega arith), packed-cell-most s part 0 0),
+        omega (arith, pair-is 1 (omega arith), packed-cell-most s part 0 1),
+      )
 
-    total : (m x : ℕ) → m < 4 → x ≡ packedCell s part 0 m → x / 64 ≡ cellOf s part 0 m
-    total m x k is = ap (λ (n : ℕ). n / 64) is ∙ packed-cell-is s (planned .good) part 0 m (omega arith) k
+      total : (m x : ℕ) → m < 4 → x ≡ packedCell s part 0 m → x / 64 ≡ cellOf s part 0 m
+      total m x k is = ap (λ (n : ℕ). n / 64) is ∙ packed-cell-is s (planned .good) part 0 m (omega arith) k
 
-    zero-total : getD pairs (32 * h + 2 * q) 0 / 64 ≡ cellOf s part 0 0
-    zero-total = total 0 _ (omega arith) zeroth-is
+      zero-total : y .zero / 64 ≡ cellOf s part 0 0
+      zero-total = total 0 _ (omega arith) (pair-is 0 (omega arith))
 
-    one-total : getD pairs (32 * h + 2 * q + 1) 0 / 64 ≡ cellOf s part 0 1
-    one-total = total 1 _ (omega arith) (cell-is 1 (omega arith))
+      one-total : y .one / 64 ≡ cellOf s part 0 1
+      one-total = total 1 _ (omega arith) (pair-is 1 (omega arith))
 
-    ways : WaysOf s plan r parts j
-    ways = planned .ways r j (e .rule .head) (e .rule .weight) parts rule-is (there .within)
+      ways : WaysOf s plan r parts j
+      ways = planned .ways r j (e .rule .head) (e .rule .weight) parts rule-is (there .within)
 
-    inhabited : Inhabited s (e .known .l) (e .known .left)
-    inhabited = omega (arith, e .known .lone .one)
+      inhabited : Inhabited s (e .known .l) (e .known .left)
+      inhabited = omega (arith, e .known .lone .one)
 
-    -- what the rule comes to
-    module _ {w0 w1 w2 : ℕ} (e0 : w0 ≡ wayCell plan r j 0) (e1 : w1 ≡ wayCell plan r j 1) (e2 : w2 ≡ wayCell plan r j 2) where
-      pub rule-told : {x : Pair}
-          → x .zero ≡ min (getD pairs (32 * h + 2 * q) 0 / 64 * 64 + w0) (getD pairs (32 * h + 2 * q + 1) 0 / 64 * 64 + w1)
-          → x .one ≡ getD pairs (32 * h + 2 * q + 1) 0 / 64 * 64 + w2 → Comes s (e .rule .head) (e .known .l) (e .known .left) r x
-      rule-told {x} ez eo = record {
-        zeroth =
-            one-more-zero s (planned .good) (e .rule .head) (e .known .l) (e .known .left) divides inhabited there
-            ∙ ap (min _) (lesser-two zero-total (e0 ∙ ways .straight) one-total (e1 ∙ ways .crossed) ∙ sym ez);
-        first =
-            one-more-one s (planned .good) (e .rule .head) (e .known .l) (e .known .left) divides inhabited there
-            ∙ ap (min _) (lesser-one one-total (e2 ∙ ways .onward) ∙ sym eo);
-      }
+      -- what the rule comes to
+      module _ {w0 w1 w2 : ℕ} (e0 : w0 ≡ wayCell plan r j 0) (e1 : w1 ≡ wayCell plan r j 1) (e2 : w2 ≡ wayCell plan r j 2) where
+        pub rule-told : {x : Pair}
+            → x .zero ≡ min (y .zero / 64 * 64 + w0) (y .one / 64 * 64 + w1) → x .one ≡ y .one / 64 * 64 + w2
+            → Comes s (e .rule .head) (e .known .l) (e .known .left) r x
+        rule-told {x} ez eo = record {
+          zeroth =
+              one-more-zero s (planned .good) (e .rule .head) (e .known .l) (e .known .left) divides inhabited there
+              ∙ ap (min _) (lesser-two zero-total (e0 ∙ ways .straight) one-total (e1 ∙ ways .crossed) ∙ sym ez);
+          first =
+              one-more-one s (planned .good) (e .rule .head) (e .known .l) (e .known .left) divides inhabited there
+              ∙ ap (min _) (lesser-one one-total (e2 ∙ ways .onward) ∙ sym eo);
+        }

@@ -7,8 +7,13 @@ ghost use Rattle.expansions.specs.Tables.{lastUnit};
 ghost use Rattle.plan.specs.Plan.{Prepared};
 ghost use Rattle.rows.specs.Slots.{Sound};
 ghost use Rattle.filling.specs.Order.{usedIn};
+ghost use Rattle.filling.specs.Pairs.{pairAt, putPair, lesserPair};
 ghost use Rattle.filling.specs.Filling.{FillEntry, LoneBy, LeavesTo, RuleEntry, Comes, ArityEntry, Best, LengthEntry, Solved};
 ghost use Rattle.filling.specs.Filling.{KeepEntry, KeptTo, AtEntry, FilledAt, OnsetEntry, OnsetFilled};
+use crate::order::first_of;
+use crate::order::is_worth;
+use crate::order::named_at;
+use crate::order::used_in;
 use plan::child;
 use plan::length;
 use plan::length_count;
@@ -40,6 +45,37 @@ fn lone(units: &[u32; 513], first: usize, from: usize, left: Units, right: Units
     false
 }
 
+// The pair of cells at a place.
+fn pair_at(cells: &[u64], at: usize) -> Pair
+    requires { ⌜ at + 1 < length (now cells) ⌝ }
+    ensures { λ x. ⌜ x ≡ pairAt (now (cells .entry)) at ⌝ }
+{
+    Pair {
+        zero: cells[at],
+        one: cells[at + 1],
+    }
+}
+
+// Stores a pair of cells at a place.
+fn put_pair(cells: &mut [u64], at: usize, x: Pair)
+    requires { ⌜ at + 1 < length (now cells) ⌝ }
+    ensures { λ _. ⌜ now (cells .exit) ≡ putPair (now (cells .entry)) at x ⌝ }
+{
+    cells[at] = x.zero;
+    cells[at + 1] = x.one;
+}
+
+// Lowers the pair of cells at a place where x is less.
+fn lower(cells: &mut [u64], at: usize, x: Pair)
+    requires { ⌜ at + 1 < length (now cells) ⌝ }
+    ensures { λ _. ⌜ now (cells .exit) ≡ putPair (now (cells .entry)) at (lesserPair (pairAt (now (cells .entry)) at) x) ⌝ }
+{
+    let y = pair_at(&cells[..], at);
+    let zero = least(y.zero, x.zero);
+    let one = least(y.one, x.one);
+    put_pair(cells, at, Pair { zero, one });
+}
+
 // Cells 0 and 1 of the leaves of the first `used` nonterminals, where the only onset is d behind the left bound.
 fn fill_leaves(plan: &[u64; 3055], best: &mut [u64], used: usize, len: Units, d: Units)
     requires { ⌜
@@ -50,8 +86,7 @@ fn fill_leaves(plan: &[u64; 3055], best: &mut [u64], used: usize, len: Units, d:
     let mut q: usize = 0;
     while q < used {
         let y = leaf_one(plan, q, len, d);
-        best[2 * q] = y.zero;
-        best[2 * q + 1] = y.one;
+        put_pair(best, 2 * q, y);
         q += 1;
     }
 }
@@ -64,14 +99,13 @@ fn rule_pair<'a>(plan: &'a [u64; 3055], pairs: &'a [u64], r: usize, h: usize, j:
         → Comes s (e .rule .head) (e .known .l) (e .known .left) r x)
         ⌝ }
 {
-    let at = 32 * h + 2 * child(plan, r, j);
-    let zero = pairs[at] / 64 * 64;
-    let one = pairs[at + 1] / 64 * 64;
+    let q = child(plan, r, j);
+    let y = pair_at(pairs, 32 * h + 2 * q);
+    let zero = y.zero / 64 * 64;
+    let one = y.one / 64 * 64;
     let a = least(zero + way(plan, r, j, 0), one + way(plan, r, j, 1));
-    Pair {
-        zero: a,
-        one: one + way(plan, r, j, 2),
-    }
+    let b = one + way(plan, r, j, 2);
+    Pair { zero: a, one: b }
 }
 
 // Lowers the cells by the rules of k parts, where part j, of the length with index h, has the onset.
@@ -90,15 +124,13 @@ fn fill_arity<'a>(
         → Best s (now (order .entry)) (now (best .exit)) (e .known .l) (e .known .left) (k + 1))
         ⌝ }
 {
-    let end = order[65 + k] as usize;
-    let mut n = order[64 + k] as usize;
+    let end = first_of(order, k + 1);
+    let mut n = first_of(order, k);
     while n < end {
-        let x = order[n];
+        let x = named_at(order, n);
         n += 1;
-        let q = 2 * ((x / 64) as usize);
-        let y = rule_pair(plan, pairs, (x % 64) as usize, h, j);
-        best[q] = least(best[q], y.zero);
-        best[q + 1] = least(best[q + 1], y.one);
+        let y = rule_pair(plan, pairs, x.rule, h, j);
+        lower(best, 2 * x.head, y);
     }
 }
 
@@ -149,18 +181,16 @@ fn keep<'a>(
         → KeptTo s (now (rows .exit)) (now (pairs .entry)) (now (pairs .exit)) (now (best .entry)) l (usedIn (now (order .entry))))
         ⌝ }
 {
-    let used = order[74] as usize;
+    let used = used_in(order);
     let mut q: usize = 0;
     while q < used {
-        let zero = best[2 * q];
-        let one = best[2 * q + 1];
+        let y = pair_at(best, 2 * q);
         let at = place_of(plan, bar, q, l, from, 0);
-        pairs[32 * l + 2 * q] = zero;
-        pairs[32 * l + 2 * q + 1] = one;
+        put_pair(pairs, 32 * l + 2 * q, y);
         store(
             rows,
             at,
-            [zero, one, NO_CELL, NO_CELL],
+            [y.zero, y.one, NO_CELL, NO_CELL],
             (bar.number as u64) + 1,
         );
         q += 1;
@@ -193,7 +223,7 @@ fn fill_at<'a>(
     let left = unit - d;
     let right = left + len.0;
     if lone(units, bar.first, from, Units(left), Units(right)) {
-        fill_leaves(plan, best, order[74] as usize, len, Units(d));
+        fill_leaves(plan, best, used_in(order), len, Units(d));
         fill_length(plan, order, &pairs[..], best, l, Units(d));
         keep(plan, order, rows, pairs, &best[..], bar, l, from);
     }
@@ -238,7 +268,7 @@ pub fn fill_bar<'a>(
         → Sound s (now (rows .exit)))
         ⌝ }
 {
-    if order[75] != 1 {
+    if !is_worth(order) {
         return;
     }
     let end = 20160 * (bar.number as u32) + 20160;

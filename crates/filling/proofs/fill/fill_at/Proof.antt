@@ -60,8 +60,8 @@ lone-requires c κs =
     let e = start .pre .1 in
     (e .of-bar .behind, of-bar-place (e .of-bar))
 
-element-copy-out-fill-leaves : tie.Need-element-copy-out-fill-leaves
-element-copy-out-fill-leaves c = search needs
+used-in-requires : tie.Need-used-in-requires
+used-in-requires c κs = search needs
 
 fill-leaves-requires : tie.Need-fill-leaves-requires
 fill-leaves-requires c κs =
@@ -72,7 +72,8 @@ fill-leaves-requires c κs =
     let if1 = c .before .before .if1 in
     let e = start .pre .1 in
     let told = lone-yes (lone .ensures) (if1 .taken) in
-    leaves-asked e (length .ensures) refl refl told
+    let used-in = c .used-in in
+    rw (used-in .ensures) (leaves-asked e (length .ensures) refl refl told)
 
 fill-length-requires : tie.Need-fill-length-requires
 fill-length-requires c κs =
@@ -82,9 +83,10 @@ fill-length-requires c κs =
     let lone = back .lone in
     let if1 = c .before .before .before .before .before .before .before .if1 in
     let fill-leaves = c .before .before .before .before .fill-leaves in
+    let used-in = c .before .before .before .before .before .used-in in
     let e = start .pre .1 in
     let told = lone-yes (lone .ensures) (if1 .taken) in
-    (start .pre .0, length-asked e (length .ensures) refl refl told (fill-leaves .ensures))
+    (start .pre .0, length-asked e (length .ensures) refl refl told (rw (used-in .ensures) at (fill-leaves .ensures)))
 
 keep-requires : tie.Need-keep-requires
 keep-requires c κs =
@@ -95,10 +97,11 @@ keep-requires c κs =
     let lone = back .before .before .before .before .before .before .lone in
     let if1 = back .before .before .before .before .before .if1 in
     let fill-leaves = back .before .before .fill-leaves in
+    let used-in = back .before .before .before .used-in in
     let fill-length = c .before .before .before .before .before .fill-length in
     let e = start .pre .1 in
     let told = lone-yes (lone .ensures) (if1 .taken) in
-    let solved = length-told e (length .ensures) refl refl told (fill-leaves .ensures) (fill-length .ensures) in
+    let solved = length-told e (length .ensures) refl refl told (rw (used-in .ensures) at (fill-leaves .ensures)) (fill-length .ensures) in
     (start .pre .0, keep-asked e (length .ensures) refl refl told solved)
 
 same-length : tie.Need-same-length
@@ -118,11 +121,12 @@ returns c =
     let lone = far .before .before .before .lone in
     let if1 = far .before .before .if1 in
     let fill-leaves = back .before .before .before .before .before .before .before .fill-leaves in
+    let used-in = far .used-in in
     let fill-length = back .before .before .fill-length in
     let keep = c .before .before .before .before .keep in
     λ s e.
     let told = lone-yes (lone .ensures) (if1 .taken) in
-    let solved = length-told e (length .ensures) refl refl told (fill-leaves .ensures) (fill-length .ensures) in
+    let solved = length-told e (length .ensures) refl refl told (rw (used-in .ensures) at (fill-leaves .ensures)) (fill-length .ensures) in
     at-told e (length .ensures) refl refl told solved (keep .ensures)
 
 returns-2 : tie.Need-returns-2
@@ -146,7 +150,7 @@ fill-at-spec =
     sub-left
     add-right
     lone-requires
-    element-copy-out-fill-leaves
+    used-in-requires
     fill-leaves-requires
     fill-length-requires
     keep-requires

@@ -17,8 +17,8 @@ Inv-loop plan units order rows₀ bar end pairs₀ i₀ rows pairs i =
 abbrev μ-loop : tie.MeasureT-loop
 μ-loop plan units order rows₀ bar end pairs₀ i₀ rows pairs i = 513 - i
 
-element-copy-out-if1 : tie.Need-element-copy-out-if1 Inv-loop μ-loop
-element-copy-out-if1 c = search needs
+is-worth-requires : tie.Need-is-worth-requires Inv-loop μ-loop
+is-worth-requires c κs = search needs
 
 returns : tie.Need-returns Inv-loop μ-loop
 returns c = λ s e. e .sound
@@ -106,7 +106,7 @@ fill-bar-spec =
     (tie.spec
     Inv-loop
     μ-loop
-    element-copy-out-if1
+    is-worth-requires
     returns
     cast-end
     mul-end
