@@ -15,6 +15,8 @@ use expansions::unpacked;
 pub use fill::prepare;
 use sheet::Rule;
 use sheet::Units;
+pub use ways::NO_CELL;
+pub use ways::NONE;
 
 // How a rule divides an interval: into `arity` parts of the length with index `part`; arity 0 where it does not.
 pub struct Split {

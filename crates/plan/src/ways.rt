@@ -10,7 +10,7 @@ use expansions::rule_at;
 use sheet::Rule;
 
 // What stands for "no tree", above every total.
-const NONE: u64 = 1125899906842624;
+pub const NONE: u64 = 1125899906842624;
 
 // The packed cell that no rule comes to: 64 × it.
 pub const NO_CELL: u64 = 72057594037927936;

@@ -12,7 +12,8 @@ ghost use Rattle.rows.specs.Rows.{Row};
 ghost use Rattle.rows.specs.TurnLaws.{Ruled};
 ghost use Rattle.rows.specs.One.{pairRow, AloneEntry, OnePart, OneEntry, LeafOne, OneRule};
 use crate::slots::Bar;
-use crate::slots::MARK;
+use crate::slots::held;
+use crate::slots::load;
 use crate::slots::place_of;
 use crate::slots::store;
 use crate::vector::NO_CELL;
@@ -179,12 +180,11 @@ fn part_one<'a>(
         ⌝ }
 {
     let at = place_of(plan, bar, q, l, from, 0);
-    let first = rows[at];
-    if first / MARK == (bar.number as u64) + 1 {
-        let second = rows[at + 1];
+    if held(&rows[..], at, bar.number) {
+        let y = load(&rows[..], at);
         return Pair {
-            zero: first % MARK,
-            one: second,
+            zero: y[0],
+            one: y[1],
         };
     }
     solve_one(plan, units, rows, bar, q, l, left, from, at)

@@ -2,20 +2,21 @@
 // number bears the bar's stamp, so that nothing is cleared between bars. The slots of a bar are turned, so that few rows of other bars are
 // overwritten.
 ghost use mathlib.Core.Path.{_≡_};
-ghost use Prim.Native.Nat.{ℕ, _+_, _-_, _*_, _≤_};
-ghost use lib.ListN.{length};
+ghost use mathlib.Core.Bool.{true};
+ghost use Prim.Native.Nat.{ℕ, _+_, _-_, _*_, _/_, _≤_, _<_};
+ghost use lib.ListN.{length, getD};
 ghost use Rattle.sheet.specs.Sheet.{Sheet};
 ghost use Rattle.expansions.specs.Tables.{UnitsHeld, lastUnit};
 ghost use Rattle.expansions.specs.Items.{firstAt};
 ghost use Rattle.rows.specs.Vectors.{LowCells};
-ghost use Rattle.rows.specs.Memo.{rowAt, stored};
+ghost use Rattle.rows.specs.Memo.{MARK, rowAt, stored};
 ghost use Rattle.rows.specs.Slots.{slotIn, SlotEntry};
 use plan::length_count;
 use plan::nonterminals;
 use sheet::Units;
 
 // Above every packed cell: a stamp is a multiple of it.
-pub const MARK: u64 = 144115188075855872;
+const MARK: u64 = 144115188075855872;
 
 // A bar: its number from 0, the place of the first onset at or behind its start, by how many places its slots are turned, and the number of
 // slots.
@@ -32,6 +33,16 @@ pub fn load(rows: &[u64], at: usize) -> [u64; 4]
     ensures { λ r. ⌜ r ≡ rowAt (now (rows .entry)) at ⌝ }
 {
     [rows[at] % MARK, rows[at + 1], rows[at + 2], rows[at + 3]]
+}
+
+// Whether the row at a place bears the stamp of bar b.
+pub fn held(rows: &[u64], at: usize, b: usize) -> bool
+    requires { ⌜ (at + 4 ≤ length (now rows)) × (b < 64) ⌝ }
+    ensures { λ r. ⌜
+        (r ≡ true → getD (now (rows .entry)) at 0 / MARK ≡ b + 1) × (getD (now (rows .entry)) at 0 / MARK ≡ b + 1 → r ≡ true)
+        ⌝ }
+{
+    rows[at] / MARK == (b as u64) + 1
 }
 
 // Stores a row at a place, with a stamp.

@@ -16,8 +16,8 @@ ghost use Rattle.rows.specs.IdleLaws.{Idle};
 use crate::one::alone;
 use crate::one::solve_one;
 use crate::slots::Bar;
-use crate::slots::MARK;
 use crate::slots::first_behind;
+use crate::slots::held;
 use crate::slots::load;
 use crate::slots::place_of;
 use crate::slots::store;
@@ -70,8 +70,8 @@ pub fn leaf_row<'a>(
     o
 }
 
-// Whether carry state c lowers nothing, where `zero` and `a` are the totals to 0 and to c: it is not reached, or carrying nothing is cheaper by
-// more than all that c can save. (By as much would do for totals, but could lose the first tree.)
+// Whether carry state c lowers nothing, where `zero` and `a` are the totals to 0 and to c: it is not reached, or carrying nothing is
+// cheaper by more than all that c can save. (By as much would do for totals, but could lose the first tree.)
 fn idle_at(plan: &[u64; 3055], zero: u64, a: u64, c: usize) -> bool
     requires { ⌜ (c < 4) × (zero ≤ NONE) × ((s : Sheet) × Prepared s (now plan)) ⌝ }
     ensures { λ r. ⌜
@@ -122,7 +122,7 @@ pub fn cells<'a>(
         return [leaf_cell(plan, q, c), NO_CELL, NO_CELL, NO_CELL];
     }
     let at = place_of(plan, bar, q, l, from, c);
-    if rows[at] / MARK == (bar.number as u64) + 1 {
+    if held(&rows[..], at, bar.number) {
         return load(&rows[..], at);
     }
     fresh(plan, units, rows, bar, q, l, left, from, c, at)
@@ -327,7 +327,7 @@ fn lift<'a>(
         return o;
     }
     let at = place_of(plan, bar, q, l, from, c);
-    if rows[at] / MARK == (bar.number as u64) + 1 {
+    if held(&rows[..], at, bar.number) {
         let y = load(&rows[..], at);
         return relax(o, a, totals(y));
     }

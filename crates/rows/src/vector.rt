@@ -6,11 +6,8 @@ ghost use lib.ListN.{getD};
 ghost use Rattle.derivations.specs.Minima.{lowest, only};
 ghost use Rattle.trees.specs.LeastTotal.{NONE};
 ghost use Rattle.rows.specs.Vectors.{vec, Low, lowered, totalsOf, loweredBy};
-
-pub const NONE: u64 = 1125899906842624;
-
-// The packed cell of "no tree": 64 × NONE.
-pub const NO_CELL: u64 = 72057594037927936;
+pub use plan::NO_CELL;
+pub use plan::NONE;
 
 // The smaller of two numbers.
 pub fn least(a: u64, b: u64) -> u64

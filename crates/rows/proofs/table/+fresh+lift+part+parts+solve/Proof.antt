@@ -36,10 +36,9 @@ pub +fresh+lift+part+parts+solve-spec : {M : Type 1} → statement M
     (fresh-needs.same-length t) (fresh-needs.returns t) (fresh-needs.solve-requires t) (fresh-needs.same-length-2 t)
     (fresh-needs.returns-2 t))
     (λ t. lift-lts.spec (lift-needs.calls t) (lift-at t) lift.Post (lift-needs.idle-at-requires t) (lift-needs.returns t)
-    (lift-needs.place-of-requires t) (lift-needs.mul-if2 t) (lift-needs.slice-read-if2 t) (lift-needs.add-if2 t)
-    (lift-needs.load-requires t) (lift-needs.totals-requires t) (lift-needs.relax-requires t) (lift-needs.same-length t)
-    (lift-needs.returns-2 t) (lift-needs.fresh-requires t) (lift-needs.totals-requires-2 t) (lift-needs.relax-requires-2 t)
-    (lift-needs.same-length-2 t) (lift-needs.returns-3 t))
+    (lift-needs.place-of-requires t) (lift-needs.held-requires t) (lift-needs.load-requires t) (lift-needs.totals-requires t)
+    (lift-needs.relax-requires t) (lift-needs.same-length t) (lift-needs.returns-2 t) (lift-needs.fresh-requires t)
+    (lift-needs.totals-requires-2 t) (lift-needs.relax-requires-2 t) (lift-needs.same-length-2 t) (lift-needs.returns-3 t))
     (λ t. part-lts.spec (part-needs.calls t) (part-at t) part.Post part-needs.Inv-loop part-needs.μ-loop
     (part-needs.least-leaf-requires t) (part-needs.least-leaf-requires-2 t) (part-needs.least-leaf-requires-3 t)
     (part-needs.least-leaf-requires-4 t) (part-needs.dot-requires t) (part-needs.returns t) (part-needs.array-read-zero t)

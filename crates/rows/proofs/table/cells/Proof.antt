@@ -40,32 +40,21 @@ place-of-requires c κs =
     let start = c .before .before .before .before .before .before in
     (start .pre .0, entry-slot (start .pre .1) (c .before .before .before .before .length .ensures) (c .if1 .left))
 
-mul-if2 : tie.Need-mul-if2
-mul-if2 c =
-    let start = c .before .before .before .before .before .before .before in
-    let length = c .before .before .before .before .before .length in
-    let if1 = c .before .if1 in
-    let place-of = c .place-of in
-    let e = start .pre .1 in
-    omega (arith, solve-room (entry-solve e (length .ensures) (if1 .left) (place-of .ensures)) (e .sound), start .good)
-
-slice-read-if2 : tie.Need-slice-read-if2
-slice-read-if2 c =
+held-requires : tie.Need-held-requires
+held-requires c κs =
+    let start = c .before .before .before .before .before .before .before .before in
     let length = c .before .before .before .before .before .before .length in
     let if1 = c .before .before .if1 in
     let place-of = c .before .place-of in
-    let e = c .before .before .before .before .before .before .before .before .pre .1 in
-    omega (arith, solve-room (entry-solve e (length .ensures) (if1 .left) (place-of .ensures)) (e .sound))
-
-add-if2 : tie.Need-add-if2
-add-if2 c = omega (arith, stands-bar (c .before .before .before .before .before .before .before .before .pre .1 .stands))
+    let e = start .pre .1 in
+    (solve-room (entry-solve e (length .ensures) (if1 .left) (place-of .ensures)) (e .sound), stands-bar (e .stands))
 
 load-requires : tie.Need-load-requires
 load-requires c κs =
-    let length = c .before .before .before .before .before .before .before .before .length in
-    let if1 = c .before .before .before .before .if1 in
-    let place-of = c .before .before .before .place-of in
-    let e = c .before .before .before .before .before .before .before .before .before .before .pre .1 in
+    let length = c .before .before .before .before .before .before .before .before .before .length in
+    let if1 = c .before .before .before .before .before .if1 in
+    let place-of = c .before .before .before .before .place-of in
+    let e = c .before .before .before .before .before .before .before .before .before .before .before .pre .1 in
     solve-room (entry-solve e (length .ensures) (if1 .left) (place-of .ensures)) (e .sound)
 
 same-length : tie.Need-same-length
@@ -73,19 +62,20 @@ same-length c = search needs
 
 returns-2 : tie.Need-returns-2
 returns-2 c =
-    let length = c .before .before .before .before .before .before .before .before .before .length in
-    let if1 = c .before .before .before .before .before .if1 in
-    let place-of = c .before .before .before .before .place-of in
+    let length = c .before .before .before .before .before .before .before .before .before .before .length in
+    let if1 = c .before .before .before .before .before .before .if1 in
+    let place-of = c .before .before .before .before .before .place-of in
+    let held = c .before .before .before .held in
     let if2 = c .before .before .if2 in
     let load = c .load in
-    λ s e. solve-loaded (entry-solve e (length .ensures) (if1 .left) (place-of .ensures)) (if2 .taken) (load .ensures)
+    λ s e. solve-loaded (entry-solve e (length .ensures) (if1 .left) (place-of .ensures)) (held .ensures .0 (if2 .taken)) (load .ensures)
 
 fresh-requires : tie.Need-fresh-requires
 fresh-requires c κs =
-    let start = c .before .before .before .before .before .before .before .before .before .before in
-    let length = c .before .before .before .before .before .before .before .before .length in
-    let if1 = c .before .before .before .before .if1 in
-    let place-of = c .before .before .before .place-of in
+    let start = c .before .before .before .before .before .before .before .before .before .before .before in
+    let length = c .before .before .before .before .before .before .before .before .before .length in
+    let if1 = c .before .before .before .before .before .if1 in
+    let place-of = c .before .before .before .before .place-of in
     let e = start .pre .1 in
     (start .pre .0, entry-solve e (length .ensures) (if1 .left) (place-of .ensures))
 
@@ -94,9 +84,9 @@ same-length-2 c = search needs
 
 returns-3 : tie.Need-returns-3
 returns-3 c =
-    let length = c .before .before .before .before .before .before .before .before .before .before .before .length in
-    let if1 = c .before .before .before .before .before .before .before .if1 in
-    let place-of = c .before .before .before .before .before .before .place-of in
+    let length = c .before .before .before .before .before .before .before .before .before .before .before .before .length in
+    let if1 = c .before .before .before .before .before .before .before .before .if1 in
+    let place-of = c .before .before .before .before .before .before .before .place-of in
     let fresh = c .before .before .fresh in
     λ s e. fresh .ensures s (entry-solve e (length .ensures) (if1 .left) (place-of .ensures))
 
@@ -111,9 +101,7 @@ cells-spec =
     leaf-cell-requires
     returns
     place-of-requires
-    mul-if2
-    slice-read-if2
-    add-if2
+    held-requires
     load-requires
     same-length
     returns-2

@@ -10,6 +10,7 @@ use Rattle.rows.proofs.table.lift.Reads as lift
 use Rattle.rows.proofs.table.+fresh+lift+part+parts+solve.Lts-lift as lift-lts
 use Rattle.rows.proofs.table.fresh.Reads as fresh
 use Rattle.rows.proofs.table.idle_at.Reads as idle-at-reads
+use Rattle.rows.proofs.slots.held.Reads as held-reads
 use Rattle.rows.proofs.slots.load.Reads as load-reads
 use Rattle.rows.proofs.slots.place_of.Reads as place-of-reads
 use Rattle.rows.proofs.vector.relax.Reads as relax-reads
@@ -24,6 +25,8 @@ module _ (t : ℕ) where
     idle-at-reads.Learnt,
     place-of-reads.Asked,
     place-of-reads.Learnt,
+    held-reads.Asked,
+    held-reads.Learnt,
     load-reads.Asked,
     load-reads.Learnt,
     totals-reads.Asked,
@@ -53,30 +56,18 @@ module _ (t : ℕ) where
       let start = c .before .before .before in
       (start .pre .1 .0, lift-slot (start .pre .1 .2))
 
-  pub mul-if2 : lift-lts.Need-mul-if2 calls (lift-at t) lift.Post
-  mul-if2 c =
-      let start = c .before .before .before .before in
-      let h = start .pre .1 .2 in
-      let e = lift-solve h (c .place-of .ensures) in
-      omega (arith, solve-room e (h .taken .sound), start .good)
-
-  pub slice-read-if2 : lift-lts.Need-slice-read-if2 calls (lift-at t) lift.Post
-  slice-read-if2 c =
+  pub held-requires : lift-lts.Need-held-requires calls (lift-at t) lift.Post
+  held-requires c κs =
       let start = c .before .before .before .before .before in
       let h = start .pre .1 .2 in
       let e = lift-solve h (c .before .place-of .ensures) in
-      omega (arith, solve-room e (h .taken .sound))
-
-  pub add-if2 : lift-lts.Need-add-if2 calls (lift-at t) lift.Post
-  add-if2 c =
-      let start = c .before .before .before .before .before in
-      omega (arith, stands-bar (start .pre .1 .2 .stands))
+      (solve-room e (h .taken .sound), stands-bar (h .stands))
 
   pub load-requires : lift-lts.Need-load-requires calls (lift-at t) lift.Post
   load-requires c κs =
-      let start = c .before .before .before .before .before .before .before in
+      let start = c .before .before .before .before .before .before .before .before in
       let h = start .pre .1 .2 in
-      let e = lift-solve h (c .before .before .before .place-of .ensures) in
+      let e = lift-solve h (c .before .before .before .before .place-of .ensures) in
       solve-room e (h .taken .sound)
 
   pub totals-requires : lift-lts.Need-totals-requires calls (lift-at t) lift.Post
@@ -84,10 +75,13 @@ module _ (t : ℕ) where
 
   pub relax-requires : lift-lts.Need-relax-requires calls (lift-at t) lift.Post
   relax-requires c κs =
-      let start = c .before .before .before .before .before .before .before .before .before in
-      let place-of = c .before .before .before .before .before .place-of in
+      let start = c .before .before .before .before .before .before .before .before .before .before in
+      let place-of = c .before .before .before .before .before .before .place-of in
+      let held = c .before .before .before .before .held in
+      let if2 = c .before .before .before .if2 in
+      let load = c .before .load in
       let h = start .pre .1 .2 in
-      let row = solve-loaded (lift-solve h (place-of .ensures)) (c .before .before .before .if2 .taken) (c .before .load .ensures) in
+      let row = solve-loaded (lift-solve h (place-of .ensures)) (held .ensures .0 (if2 .taken)) (load .ensures) in
       (omega (arith, h .total-is, h .low (start .args .c)), row-low (h .stands .in-bar .prepared .good) (h .few) row (c .totals .ensures))
 
   pub same-length : lift-lts.Need-same-length calls (lift-at t) lift.Post
@@ -95,20 +89,21 @@ module _ (t : ℕ) where
 
   pub returns-2 : lift-lts.Need-returns-2 calls (lift-at t) lift.Post
   returns-2 c =
-      let place-of = c .before .before .before .before .before .before .place-of in
+      let place-of = c .before .before .before .before .before .before .before .place-of in
+      let held = c .before .before .before .before .before .held in
       let if2 = c .before .before .before .before .if2 in
       let load = c .before .before .load in
       let totals = c .before .totals in
       let relax = c .relax in
       λ s v h.
-      let row = solve-loaded (lift-solve h (place-of .ensures)) (if2 .taken) (load .ensures) in
+      let row = solve-loaded (lift-solve h (place-of .ensures)) (held .ensures .0 (if2 .taken)) (load .ensures) in
       lift-more h row (totals .ensures) (relax .ensures)
 
   pub fresh-requires : lift-lts.Need-fresh-requires calls (lift-at t) lift.Post
   fresh-requires c κs =
-      let start = c .before .before .before .before .before .before .before in
+      let start = c .before .before .before .before .before .before .before .before in
       let h = start .pre .1 .2 in
-      let e = lift-solve h (c .before .before .before .place-of .ensures) in
+      let e = lift-solve h (c .before .before .before .before .place-of .ensures) in
       (omega (arith, start .pre .0), (start .pre .1 .0, e))
 
   pub totals-requires-2 : lift-lts.Need-totals-requires-2 calls (lift-at t) lift.Post
@@ -116,8 +111,8 @@ module _ (t : ℕ) where
 
   pub relax-requires-2 : lift-lts.Need-relax-requires-2 calls (lift-at t) lift.Post
   relax-requires-2 c κs =
-      let start = c .before .before .before .before .before .before .before .before .before .before .before in
-      let place-of = c .before .before .before .before .before .before .before .place-of in
+      let start = c .before .before .before .before .before .before .before .before .before .before .before .before in
+      let place-of = c .before .before .before .before .before .before .before .before .place-of in
       let fresh = c .before .before .before .fresh in
       let h = start .pre .1 .2 in
       let row = fresh .ensures _ (lift-solve h (place-of .ensures)) in
@@ -128,7 +123,7 @@ module _ (t : ℕ) where
 
   pub returns-3 : lift-lts.Need-returns-3 calls (lift-at t) lift.Post
   returns-3 c =
-      let place-of = c .before .before .before .before .before .before .before .before .place-of in
+      let place-of = c .before .before .before .before .before .before .before .before .before .place-of in
       let fresh = c .before .before .before .before .fresh in
       let totals2 = c .before .totals2 in
       let relax2 = c .relax2 in
