@@ -45,8 +45,8 @@ fn least_cell(y: [u64; 4], v: [u64; 4]) -> u64
     least(c, y[3] + 64 * v[3])
 }
 
-// What the parts of rule r from part i on total from carry state c with the vector v behind them; NONE where c is idle by the totals y of the
-// item before them, since no least list passes it.
+// What the parts of rule r from part i on total from carry state c with the vector v behind them; NONE where c is idle by the totals y of
+// the item before them, since no least list passes it.
 fn passed<'a>(
     plan: &'a [u64; 3055],
     units: &'a [u32; 513],

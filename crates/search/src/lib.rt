@@ -284,8 +284,8 @@ fn forward<'a>(
         ⌝ }
     ensures { λ r. ⌜
         ((s : Sheet)
-        → ForwardEntry s (now (plan .entry)) (now (units .entry)) (now (order .entry)) (now (rows .entry)) (now (tree .entry)) (now (roots .entry))
-        (now (vectors .entry)) start count → FoundIn s (now (tree .exit)) r)
+        → ForwardEntry s (now (plan .entry)) (now (units .entry)) (now (order .entry)) (now (rows .entry)) (now (tree .entry))
+        (now (roots .entry)) (now (vectors .entry)) start count → FoundIn s (now (tree .exit)) r)
         ⌝ }
 {
     let slots = rows.len() / 4;
