@@ -17,7 +17,8 @@ use Rattle.filling.specs.declared.order.Named.{Named}
 use Rattle.filling.specs.Order.{IsDivision, namedOf, Names, Section, firstOf, usedIn}
 use Rattle.filling.specs.OrderLaws.{division-below}
 use Rattle.filling.specs.Pairs.{pairAt, putPair, lesserPair}
-use Rattle.filling.specs.Filling.{Met, Best, RuleEntry, Comes, ArityEntry, ArityTo}
+use Rattle.rows.specs.One.{Comes}
+use Rattle.filling.specs.Filling.{Met, Best, RuleEntry, ArityEntry, ArityTo}
 use Rattle.filling.specs.BestLaws.{best-more, rule-met, best-lower, arity-end}
 
 module _ {s : Sheet} {plan order pairs best : List ℕ} {k h j : ℕ} (e : ArityEntry s plan order pairs best k h j) where

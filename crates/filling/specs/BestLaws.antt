@@ -24,7 +24,8 @@ use Rattle.rows.specs.Slots.{itemAt}
 use Rattle.filling.specs.Order.{firstOf, usedIn, ByArity}
 use Rattle.filling.specs.Pairs.{pairAt, putPair, lesserPair, put-size, put-other, put-zeroth, put-first}
 use Rattle.filling.specs.OrderLaws.{is-division, division-below}
-use Rattle.filling.specs.Filling.{Met, Best, Solved, Comes, ArityTo}
+use Rattle.rows.specs.One.{Comes}
+use Rattle.filling.specs.Filling.{Met, Best, Solved, ArityTo}
 
 -- ---- fewer rules come to no less
 

@@ -107,11 +107,6 @@ pub record RuleEntry (s : Sheet) (plan pairs : List ℕ) (r h j : ℕ) : Type 0 
   pub known : PartKnown s plan pairs u k h j
   pub rule : IsDivision s r k
 
--- and comes to x: the lesser of what the rules before it come to and of x is what they and it come to
-pub record Comes (s : Sheet) (q l : ℕ) (left : Units) (r : ℕ) (x : Pair) : Type 0 where
-  pub zeroth : packedTo s (itemAt s q l left) 0 (r + 1) 0 ≡ min (packedTo s (itemAt s q l left) 0 r 0) (x .zero)
-  pub first : packedTo s (itemAt s q l left) 0 (r + 1) 1 ≡ min (packedTo s (itemAt s q l left) 0 r 1) (x .one)
-
 -- the rules of k parts are to be met
 pub record ArityEntry (s : Sheet) (plan order pairs best : List ℕ) (k h j : ℕ) : Type 0 where
   pub known : PartKnown s plan pairs (usedIn order) k h j

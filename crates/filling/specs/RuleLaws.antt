@@ -24,7 +24,9 @@ use Rattle.rows.specs.OnePartLaws.{OneAt, one-at}
 use Rattle.rows.specs.OneTurnLaws.{partAt, one-more-zero, one-more-one}
 use Rattle.filling.specs.OrderLaws.{division-below, division-arity}
 use Rattle.filling.specs.Pairs.{pairAt, cellIn, pair-cell}
-use Rattle.filling.specs.Filling.{Lone, RuleEntry, Comes}
+use Rattle.rows.specs.One.{byWay, WayEntry, Comes}
+use Rattle.rows.specs.WayLaws.{way-comes}
+use Rattle.filling.specs.Filling.{Lone, RuleEntry}
 
 -- an interval with one onset stands, under each nonterminal
 module _ {s : Sheet} {plan us : List ℕ} {bar : Bar} {l : ℕ} {left : Units} {from : ℕ} (in-bar : InBar s plan us bar)
@@ -40,14 +42,6 @@ module _ {s : Sheet} {plan us : List ℕ} {bar : Bar} {l : ℕ} {left : Units} {
 
   pub lone-near : left .0 + lengthAt s l ≤ lastUnit
   lone-near = stands-near (lone-stands (in-bar .prepared .good .start))
-
--- the lesser of two sums, by what they are of
-lesser-one : {x y v w : ℕ} → x ≡ y → v ≡ w → 64 * y + w ≡ x * 64 + v
-lesser-one p q = omega arith
-
-lesser-two : {x y v w x′ y′ v′ w′ : ℕ} → x ≡ y → v ≡ w → x′ ≡ y′ → v′ ≡ w′
-    → min (64 * y + w) (64 * y′ + w′) ≡ min (x * 64 + v) (x′ * 64 + v′)
-lesser-two p q p′ q′ = omega arith
 
 module _ {s : Sheet} {plan pairs : List ℕ} {r h j : ℕ} (e : RuleEntry s plan pairs r h j) where
   abbrev left : ℕ
@@ -87,13 +81,6 @@ module _ {s : Sheet} {plan pairs : List ℕ} {r h j : ℕ} (e : RuleEntry s plan
     whole = e .known .whole;
   }
 
-  pub ways-low : (wayCell plan r j 0 ≤ 64 * NONE + 63) × (wayCell plan r j 1 ≤ 64 * NONE + 63) × (wayCell plan r j 2 ≤ 64 * NONE + 63)
-  ways-low = (
-    straight-most s plan planned r j (e .rule .head) (e .rule .weight) parts rule-is (there .within),
-    crossed-most s plan planned r j (e .rule .head) (e .rule .weight) parts rule-is (there .within),
-    onward-most s plan planned r j (e .rule .head) (e .rule .weight) parts rule-is (there .within),
-  )
-
   module _ {q : ℕ} (eq : q ≡ childCell plan r j) where
     child-is : q ≡ getD parts j 0
     child-is = eq ∙ child-at s plan planned r (e .rule .head) (e .rule .weight) parts rule-is j (there .within)
@@ -125,37 +112,23 @@ module _ {s : Sheet} {plan pairs : List ℕ} {r h j : ℕ} (e : RuleEntry s plan
       pair-is : (m : ℕ) → m < 2 → cellIn y m ≡ packedCell s part 0 m
       pair-is m k = ap (λ (z : Pair). cellIn z m) ey ∙ pair-cell pairs (32 * h + 2 * q) m k ∙ cell-is m k
 
-      pub cells-low : (y .zero ≤ 64 * NONE) × (y .one ≤ 64 * NONE)
-      cells-low = (
-        omega (arith, pair-is 0 (omega arith), packed-cell-most s part 0 0),
-        omega (arith, pair-is 1 (omega arith), packed-cell-most s part 0 1),
-      )
+      pub rule-way : WayEntry s plan r j y
+      rule-way = record {
+        prepared = planned;
+        head = e .rule .head;
+        weight = e .rule .weight;
+        parts = parts;
+        rule = rule-is;
+        within = there .within;
+        zero-low = omega (arith, pair-is 0 (omega arith), packed-cell-most s part 0 0);
+        one-low = omega (arith, pair-is 1 (omega arith), packed-cell-most s part 0 1);
+      }
 
-      total : (m x : ℕ) → m < 4 → x ≡ packedCell s part 0 m → x / 64 ≡ cellOf s part 0 m
-      total m x k is = ap (λ (n : ℕ). n / 64) is ∙ packed-cell-is s (planned .good) part 0 m (omega arith) k
-
-      zero-total : y .zero / 64 ≡ cellOf s part 0 0
-      zero-total = total 0 _ (omega arith) (pair-is 0 (omega arith))
-
-      one-total : y .one / 64 ≡ cellOf s part 0 1
-      one-total = total 1 _ (omega arith) (pair-is 1 (omega arith))
-
-      ways : WaysOf s plan r parts j
-      ways = planned .ways r j (e .rule .head) (e .rule .weight) parts rule-is (there .within)
-
-      inhabited : Inhabited s (e .known .l) (e .known .left)
-      inhabited = omega (arith, e .known .lone .one)
+      total : (m : ℕ) → m < 2 → cellIn y m / 64 ≡ cellOf s part 0 m
+      total m k = ap (λ (n : ℕ). n / 64) (pair-is m k) ∙ packed-cell-is s (planned .good) part 0 m (omega arith) (omega arith)
 
       -- what the rule comes to
-      module _ {w0 w1 w2 : ℕ} (e0 : w0 ≡ wayCell plan r j 0) (e1 : w1 ≡ wayCell plan r j 1) (e2 : w2 ≡ wayCell plan r j 2) where
-        pub rule-told : {x : Pair}
-            → x .zero ≡ min (y .zero / 64 * 64 + w0) (y .one / 64 * 64 + w1) → x .one ≡ y .one / 64 * 64 + w2
-            → Comes s (e .rule .head) (e .known .l) (e .known .left) r x
-        rule-told {x} ez eo = record {
-          zeroth =
-              one-more-zero s (planned .good) (e .rule .head) (e .known .l) (e .known .left) divides inhabited there
-              ∙ ap (min _) (lesser-two zero-total (e0 ∙ ways .straight) one-total (e1 ∙ ways .crossed) ∙ sym ez);
-          first =
-              one-more-one s (planned .good) (e .rule .head) (e .known .l) (e .known .left) divides inhabited there
-              ∙ ap (min _) (lesser-one one-total (e2 ∙ ways .onward) ∙ sym eo);
-        }
+      pub rule-told : {x : Pair} → x ≡ byWay plan r j y → Comes s (e .rule .head) (e .known .l) (e .known .left) r x
+      rule-told ex =
+          way-comes planned (e .rule .head) (e .known .l) (e .known .left) divides (omega (arith, e .known .lone .one)) there y
+          (total 0 (omega arith)) (total 1 (omega arith)) ex

@@ -6,9 +6,10 @@ ghost use Rattle.sheet.specs.Sheet.{Sheet};
 ghost use Rattle.expansions.specs.Tables.{lastUnit};
 ghost use Rattle.plan.specs.Plan.{Prepared};
 ghost use Rattle.rows.specs.Slots.{Sound};
+ghost use Rattle.rows.specs.One.{Comes};
 ghost use Rattle.filling.specs.Order.{usedIn};
 ghost use Rattle.filling.specs.Pairs.{pairAt, putPair, lesserPair};
-ghost use Rattle.filling.specs.Filling.{FillEntry, LoneBy, LeavesTo, RuleEntry, Comes, ArityEntry, Best, LengthEntry, Solved};
+ghost use Rattle.filling.specs.Filling.{FillEntry, LoneBy, LeavesTo, RuleEntry, ArityEntry, Best, LengthEntry, Solved};
 ghost use Rattle.filling.specs.Filling.{KeepEntry, KeptTo, AtEntry, FilledAt, OnsetEntry, OnsetFilled};
 use crate::order::first_of;
 use crate::order::is_worth;
@@ -18,8 +19,8 @@ use plan::child;
 use plan::length;
 use plan::length_count;
 use plan::split_by;
-use plan::way;
 use rows::one::Pair;
+use rows::one::by_way;
 use rows::one::leaf_one;
 use rows::slots::Bar;
 use rows::slots::place_of;
@@ -101,11 +102,7 @@ fn rule_pair<'a>(plan: &'a [u64; 3055], pairs: &'a [u64], r: usize, h: usize, j:
 {
     let q = child(plan, r, j);
     let y = pair_at(pairs, 32 * h + 2 * q);
-    let zero = y.zero / 64 * 64;
-    let one = y.one / 64 * 64;
-    let a = least(zero + way(plan, r, j, 0), one + way(plan, r, j, 1));
-    let b = one + way(plan, r, j, 2);
-    Pair { zero: a, one: b }
+    by_way(plan, r, j, y)
 }
 
 // Lowers the cells by the rules of k parts, where part j, of the length with index h, has the onset.

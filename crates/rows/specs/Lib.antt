@@ -20,4 +20,5 @@ pub mod CallLaws
 pub mod SavedLaws
 pub mod IdleLaws
 pub mod One
+pub mod WayLaws
 pub mod OneCallLaws

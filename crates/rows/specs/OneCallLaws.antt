@@ -37,7 +37,8 @@ use Rattle.rows.specs.CallLaws.{PlaceOf}
 use Rattle.rows.specs.OnePartLaws.{OneAt, one-onset, one-unit, one-at, one-first}
 use Rattle.rows.specs.OneTurnLaws.{partAt, one-more-zero, one-more-one, packed-one-none, packed-to-none}
 use Rattle.rows.specs.OneTurnLaws.{leaf-one-early, leaf-one-late}
-use Rattle.rows.specs.One.{pairRow, AloneEntry, OnePart, OneEntry, LeafOne, OneRule}
+use Rattle.rows.specs.One.{pairRow, byWay, AloneEntry, OnePart, OneEntry, LeafOne, WayEntry, Comes, OneRule}
+use Rattle.rows.specs.WayLaws.{way-comes}
 
 -- ---- `alone` looks at the onset behind the first
 
@@ -205,14 +206,6 @@ module _ {s : Sheet} {plan us rows : List ℕ} {bar : Bar} {q l : ℕ} {left : U
 
 -- ---- `rule_one` calls `part_one`
 
--- minima of sums, by what they are of
-lesser-one : {a b x y v w : ℕ} → a ≡ b → x ≡ y → v ≡ w → min a (x * 64 + v) ≡ min b (64 * y + w)
-lesser-one p q r = omega arith
-
-lesser-two : {a b x y v w x′ y′ v′ w′ : ℕ} → a ≡ b → x ≡ y → v ≡ w → x′ ≡ y′ → v′ ≡ w′
-    → min a (min (x * 64 + v) (x′ * 64 + v′)) ≡ min b (min (64 * y + w) (64 * y′ + w′))
-lesser-two p q r q′ r′ = omega arith
-
 module _ {s : Sheet} {plan us rows : List ℕ} {bar : Bar} {r l : ℕ} {left : Units} {from d : ℕ} {best : Pair}
     (e : OneRule s plan us rows bar r l left from d best) where
   abbrev kids : List ℕ
@@ -279,22 +272,20 @@ module _ {s : Sheet} {plan us rows : List ℕ} {bar : Bar} {r l : ℕ} {left : U
       }
 
       module _ {after : List ℕ} {y : Pair} (row : Row s after (itemAt s q l (units (left .0 + j * len))) 0 (pairRow y)) where
-        -- what is added up fits
-        pub rule-low : (y .zero ≤ 64 * NONE) × (y .one ≤ 64 * NONE)
-        rule-low = (row-cells-low row 0, row-cells-low row 1)
-
-        rule : ruleAt s r ≡ some (division (e .q) (e .divides .weight) kids)
-        rule = e .divides .rule
-
         abbrev planned : Prepared s plan
         planned = e .stands .in-bar .prepared
 
-        pub ways-low : (wayCell plan r j 0 ≤ 64 * NONE + 63) × (wayCell plan r j 1 ≤ 64 * NONE + 63) × (wayCell plan r j 2 ≤ 64 * NONE + 63)
-        ways-low = (
-          straight-most s plan planned r j (e .q) (e .divides .weight) kids rule (there .within),
-          crossed-most s plan planned r j (e .q) (e .divides .weight) kids rule (there .within),
-          onward-most s plan planned r j (e .q) (e .divides .weight) kids rule (there .within),
-        )
+        pub rule-way : WayEntry s plan r j y
+        rule-way = record {
+          prepared = planned;
+          head = e .q;
+          weight = e .divides .weight;
+          parts = kids;
+          rule = e .divides .rule;
+          within = there .within;
+          zero-low = row-cells-low row 0;
+          one-low = row-cells-low row 1;
+        }
 
         abbrev part : Item
         part = partAt (left .0) (lengthAt s l) kids j
@@ -302,7 +293,7 @@ module _ {s : Sheet} {plan us rows : List ℕ} {bar : Bar} {r l : ℕ} {left : U
         same-part : itemAt s q l (units (left .0 + j * len)) ≡ part
         same-part =
             ap (λ (n : ℕ). record { nonterminal = n; left = left .0 + j * len; len = lengthAt s l })
-            (eq ∙ child-at s plan planned r (e .q) (e .divides .weight) kids rule j (there .within))
+            (eq ∙ child-at s plan planned r (e .q) (e .divides .weight) kids (e .divides .rule) j (there .within))
             ∙ ap (λ (n : ℕ). record { nonterminal = getD kids j 0; left = n; len = lengthAt s l }) left-there
 
         total : (m : ℕ) → m < 4 → packedCell s (itemAt s q l (units (left .0 + j * len))) 0 m / 64 ≡ cellOf s part 0 m
@@ -315,29 +306,17 @@ module _ {s : Sheet} {plan us rows : List ℕ} {bar : Bar} {r l : ℕ} {left : U
         one-is : y .one / 64 ≡ cellOf s part 0 1
         one-is = ap (λ v. getD v 1 0 / 64) (row .is) ∙ total 1 (omega arith)
 
-        ways : WaysOf s plan r kids j
-        ways = planned .ways r j (e .q) (e .divides .weight) kids rule (there .within)
-
-        inhabited : Inhabited s (e .whole) left
-        inhabited = omega (arith, e .one)
-
         -- one rule more is done
-        module _ {w0 w1 w2 : ℕ} (e0 : w0 ≡ wayCell plan r j 0) (e1 : w1 ≡ wayCell plan r j 1) (e2 : w2 ≡ wayCell plan r j 2) where
-          pub rule-told : {a : ℕ} {x : Pair} → a ≡ min (y .zero / 64 * 64 + w0) (y .one / 64 * 64 + w1) → x .zero ≡ min (best .zero) a
-              → x .one ≡ min (best .one) (y .one / 64 * 64 + w2) → Ruled s after (itemAt s (e .q) (e .whole) left) 0 (r + 1) (pairRow x)
-          rule-told {a} {x} ea ez eo =
-              pair-ruled (planned .good) (e .one) (omega (arith, some-below (s .grammar .rules) r _ rule))
-              (ez ∙ ap (min (best .zero)) ea ∙ lesser-two (before .0) zero-is (e0 ∙ ways .straight) one-is (e1 ∙ ways .crossed)
-              ∙ sym (one-more-zero s (planned .good) (e .q) (e .whole) left (e .divides) inhabited there))
-              (eo ∙ lesser-one (before .1) one-is (e2 ∙ ways .onward)
-              ∙ sym (one-more-one s (planned .good) (e .q) (e .whole) left (e .divides) inhabited there))
-              (row .sound)
-            where
-              g : Item
-              g = itemAt s (e .q) (e .whole) left
-
-              before : (best .zero ≡ packedTo s g 0 r 0) × (best .one ≡ packedTo s g 0 r 1)
-              before = (ap (λ v. getD v 0 0) (e .done .is), ap (λ v. getD v 1 0) (e .done .is))
+        pub rule-told : {x z : Pair} → x ≡ byWay plan r j y → z .zero ≡ min (best .zero) (x .zero) → z .one ≡ min (best .one) (x .one)
+            → Ruled s after (itemAt s (e .q) (e .whole) left) 0 (r + 1) (pairRow z)
+        rule-told {x} {z} ex ez eo =
+            pair-ruled (planned .good) (e .one) (omega (arith, some-below (s .grammar .rules) r _ (e .divides .rule)))
+            (ez ∙ ap (λ (n : ℕ). min n (x .zero)) (ap (λ v. getD v 0 0) (e .done .is)) ∙ sym (comes .zeroth))
+            (eo ∙ ap (λ (n : ℕ). min n (x .one)) (ap (λ v. getD v 1 0) (e .done .is)) ∙ sym (comes .first))
+            (row .sound)
+          where
+            comes : Comes s (e .q) (e .whole) left r x
+            comes = way-comes planned (e .q) (e .whole) left (e .divides) (omega (arith, e .one)) there y zero-is one-is ex
 
 -- ---- `fresh` calls `alone`, and `solve_one` where it is
 

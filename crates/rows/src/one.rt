@@ -10,7 +10,7 @@ ghost use Rattle.plan.specs.Plan.{Prepared, lengthAt};
 ghost use Rattle.rows.specs.Slots.{itemAt};
 ghost use Rattle.rows.specs.Rows.{Row};
 ghost use Rattle.rows.specs.TurnLaws.{Ruled};
-ghost use Rattle.rows.specs.One.{pairRow, AloneEntry, OnePart, OneEntry, LeafOne, OneRule};
+ghost use Rattle.rows.specs.One.{pairRow, byWay, AloneEntry, OnePart, OneEntry, LeafOne, WayEntry, OneRule};
 use crate::slots::Bar;
 use crate::slots::held;
 use crate::slots::load;
@@ -78,6 +78,18 @@ pub fn leaf_one(plan: &[u64; 3055], q: usize, len: Units, d: Units) -> Pair
         zero: NO_CELL,
         one: x,
     }
+}
+
+// What rule r comes to where only its part j has an onset, of which y are cells 0 and 1.
+pub fn by_way(plan: &[u64; 3055], r: usize, j: usize, y: Pair) -> Pair
+    requires { ⌜ ((s : Sheet) × WayEntry s (now plan) r j y) ⌝ }
+    ensures { λ x. ⌜ x ≡ byWay (now (plan .entry)) r j y ⌝ }
+{
+    let zero = y.zero / 64 * 64;
+    let one = y.one / 64 * 64;
+    let a = least(zero + way(plan, r, j, 0), one + way(plan, r, j, 1));
+    let b = one + way(plan, r, j, 2);
+    Pair { zero: a, one: b }
 }
 
 // Solves the row of an item with one onset inside, from carry state 0, and stores it at its place.
@@ -152,13 +164,10 @@ fn rule_one<'a>(
     let q = child(plan, r, part);
     let lo = left.0 + i * len.0;
     let y = part_one(plan, units, rows, bar, q, l, Units(lo), from);
-    let zero = y.zero / 64 * 64;
-    let one = y.one / 64 * 64;
-    let a = least(zero + way(plan, r, part, 0), one + way(plan, r, part, 1));
-    let b = one + way(plan, r, part, 2);
+    let x = by_way(plan, r, part, y);
     Pair {
-        zero: least(best.zero, a),
-        one: least(best.one, b),
+        zero: least(best.zero, x.zero),
+        one: least(best.one, x.one),
     }
 }
 

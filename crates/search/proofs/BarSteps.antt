@@ -42,13 +42,13 @@ pub record InBars (s : Sheet) (rows tree now : List ℕ) (e b carry next : ℕ) 
 module _ {s : Sheet} {plan us rows tree vectors roots : List ℕ} {start from e n : ℕ}
     (h : BarsBuildEntry s plan us rows tree vectors roots start from e n) where
   abbrev good : GoodRules (s .grammar)
-  good = h .entry .prepared .good
+  good = h .ripe .entry .prepared .good
 
   pub in-bars-none : InBars s rows tree tree e from 0 n
   in-bars-none = record {
-    partway = partway-settled s good e (h .reached) from (h .rising) (h .shut) (h .settled) (h .end-in);
-    on-path = path-shut s e good (h .reached) from (h .rising) (h .shut);
-    sound = h .entry .sound;
+    partway = partway-settled s good e (h .ripe .reached) from (h .ripe .rising) (h .ripe .shut) (h .ripe .settled) (h .ripe .end-in);
+    on-path = path-shut s e good (h .ripe .reached) from (h .ripe .rising) (h .ripe .shut);
+    sound = h .ripe .entry .sound;
   }
 
   module _ {now rows′ : List ℕ} {b carry next : ℕ} (p : InBars s rows′ tree now e b carry next) (lo : from ≤ b) (hb : b < e) where
@@ -59,10 +59,10 @@ module _ {s : Sheet} {plan us rows tree vectors roots : List ℕ} {start from e 
     bar-carry = p .partway .few
 
     below : b < s .playing .bars
-    below = omega (arith, h .end-in)
+    below = omega (arith, h .ripe .end-in)
 
     pub root-room : 16 * b + 4 * carry + 4 ≤ length roots
-    root-room = omega (arith, h .roots-are .size, below, bar-carry)
+    root-room = omega (arith, h .ripe .roots-are .size, below, bar-carry)
 
     pub vector-room : 4 * (b + 1) + 4 ≤ length vectors
     vector-room = omega (arith, h .vectors-are .size)
@@ -75,7 +75,7 @@ module _ {s : Sheet} {plan us rows tree vectors roots : List ℕ} {start from e 
     -- the bar's row is its own, since no least list passes an idle carry state
     row-own : (y : List ℕ) → RootRow s b carry y → y ≡ vec (packedCell s g carry)
     row-own y (inl z) = z
-    row-own y (inr (idle, _)) = absurd (path-own s e good (h .reached) b hb carry bar-carry (p .on-path) idle)
+    row-own y (inr (idle, _)) = absurd (path-own s e good (h .ripe .reached) b hb carry bar-carry (p .on-path) idle)
 
     module _ {y x : List ℕ} (ey : y ≡ rowAt roots (16 * b + 4 * carry)) (ex : x ≡ rowAt vectors (4 * (b + 1))) where
       suffix : Suffix s e (b + 1) x
@@ -84,19 +84,19 @@ module _ {s : Sheet} {plan us rows tree vectors roots : List ℕ} {start from e 
       row-is : y ≡ vec (packedCell s g carry)
       row-is =
           let same : 16 * b + 4 * carry ≡ 4 * (4 * b + carry) = omega arith in
-          row-own y (subst (RootRow s b carry) (sym (ey ∙ ap (rowAt roots) same)) (h .roots-are .each b carry hb bar-carry))
+          row-own y (subst (RootRow s b carry) (sym (ey ∙ ap (rowAt roots) same)) (h .ripe .roots-are .each b carry hb bar-carry))
 
       reached : behind s (g ∷ []) (at x) carry < NONE
       reached =
-          omega (arith, path-reached s e good (h .reached) b hb suffix carry bar-carry (p .on-path), p .on-path, h .reached)
+          omega (arith, path-reached s e good (h .ripe .reached) b hb suffix carry bar-carry (p .on-path), p .on-path, h .ripe .reached)
 
       pub bar-build : {bar : Bar} → bar ≡ barOf s b
           → BuildEntry s plan us rows′ now bar start 0 (units (20160 * b)) (bar .first) carry y x next
       bar-build eb =
-          let same = bar-item s (h .entry .start-is) b in
+          let same = bar-item s (h .ripe .entry .start-is) b in
           record {
             entry = record {
-              stands = bar-stands s (h .entry .start-is) b (h .entry .prepared) (h .entry .onsets) below eb;
+              stands = bar-stands s (h .ripe .entry .start-is) b (h .ripe .entry .prepared) (h .ripe .entry .onsets) below eb;
               few = bar-carry;
               sound = p .sound;
             };
@@ -111,7 +111,7 @@ module _ {s : Sheet} {plan us rows tree vectors roots : List ℕ} {start from e 
       a = s .grammar .multiplier
 
       serves : Serves (instanceOf s) a (g ∷ []) (behindBars s e (b + 1)) (at x) carry (behindBars s e b carry)
-      serves = serves-bar s e good (h .reached) b hb suffix carry bar-carry (p .on-path)
+      serves = serves-bar s e good (h .ripe .reached) b hb suffix carry bar-carry (p .on-path)
 
       pub in-bars-more : {rows″ then : List ℕ} {built : Built}
           → BuiltAs s rows″ now then (itemAt s start 0 (units (20160 * b)) ∷ []) (at x) carry next built
@@ -119,13 +119,13 @@ module _ {s : Sheet} {plan us rows tree vectors roots : List ℕ} {start from e 
       in-bars-more {rows″} {then} {built} told = record {
         partway = partway-next s good rows″ tree now then (barsTo s e) g (barsFrom s e (b + 1)) (only NONE 0) 0 0 carry next x
             (behindBars s e b carry) built on serves made;
-        on-path = rw (made .carry-is) (path-next s e good (h .reached) b hb carry (made .price .carry) bar-carry (p .on-path) onward);
+        on-path = rw (made .carry-is) (path-next s e good (h .ripe .reached) b hb carry (made .price .carry) bar-carry (p .on-path) onward);
         sound = made .sound;
       }
         where
           made : BuiltAs s rows″ now then (g ∷ []) (at x) carry next built
           made =
-              subst (λ (i : Item). BuiltAs s rows″ now then (i ∷ []) (at x) carry next built) (bar-item s (h .entry .start-is) b) told
+              subst (λ (i : Item). BuiltAs s rows″ now then (i ∷ []) (at x) carry next built) (bar-item s (h .ripe .entry .start-is) b) told
 
           first : First (instanceOf s) a (g ∷ []) (behindBars s e (b + 1)) carry (made .bytes) (made .price)
           first = first-served serves (made .first)
@@ -143,8 +143,8 @@ module _ {s : Sheet} {plan us rows tree vectors roots : List ℕ} {start from e 
   pub in-bars-all : {now rows′ : List ℕ} {b carry next : ℕ} → InBars s rows′ tree now e b carry next → b ≡ e
       → SettledAs s rows′ now e next
   in-bars-all {now} {rows′} {b} {carry} {next} p eb = record {
-    settled = settled-built s good e (h .reached) (p .sound)
+    settled = settled-built s good e (h .ripe .reached) (p .sound)
         (subst (λ (i : ℕ). Partway s tree now (barsTo s e) (barsFrom s e i) (only NONE 0) 0 0 carry next) eb (p .partway))
-        (h .settled .room);
+        (h .ripe .settled .room);
     sound = p .sound;
   }

@@ -46,26 +46,17 @@ module _ {s : Sheet} {plan us rows tree roots vectors : List ℕ} {start from e 
     (h : SettleEntry s plan us rows tree roots vectors start from e n) where
   pub settle-back : BackEntry s roots vectors from e
   settle-back = record {
-    good = h .entry .prepared .good;
-    rising = h .rising;
-    end-in = h .end-in;
-    few = few-bars (h .entry);
-    roots-are = h .roots-are;
+    good = h .ripe .entry .prepared .good;
+    rising = h .ripe .rising;
+    end-in = h .ripe .end-in;
+    few = few-bars (h .ripe .entry);
+    roots-are = h .ripe .roots-are;
     room = h .vectors-size;
-    reached = h .reached;
+    reached = h .ripe .reached;
   }
 
   pub settle-build : {filled : List ℕ} → VectorsFrom s filled e from → BarsBuildEntry s plan us rows tree filled roots start from e n
-  settle-build are = record {
-    entry = h .entry;
-    rising = h .rising;
-    end-in = h .end-in;
-    vectors-are = are;
-    roots-are = h .roots-are;
-    reached = h .reached;
-    shut = h .shut;
-    settled = h .settled;
-  }
+  settle-build are = record { ripe = h .ripe; vectors-are = are }
 
 -- ---- `forward`
 
@@ -119,21 +110,23 @@ module _ {s : Sheet} {plan us order rows tree roots vectors : List ℕ} {start c
     pub going-settle : {filled : List ℕ} → b ≤ count → length filled ≡ length vectors → getD v 0 0 < NONE
         → SettleEntry s plan us now tree′ roots′ filled start done b next
     going-settle hb size low = record {
-      entry = record {
-        prepared = h .entry .prepared;
-        onsets = h .entry .onsets;
-        start-is = h .entry .start-is;
-        count-is = refl;
-        some-slot = h .entry .some-slot;
-        sound = p .forwarded .sound;
+      ripe = record {
+        entry = record {
+          prepared = h .entry .prepared;
+          onsets = h .entry .onsets;
+          start-is = h .entry .start-is;
+          count-is = refl;
+          some-slot = h .entry .some-slot;
+          sound = p .forwarded .sound;
+        };
+        rising = p .rising;
+        end-in = omega (arith, h .entry .count-is);
+        roots-are = p .forwarded .roots-are;
+        reached = omega (arith, total-is);
+        shut = p .shut;
+        settled = p .settled;
       };
-      rising = p .rising;
-      end-in = omega (arith, h .entry .count-is);
-      roots-are = p .forwarded .roots-are;
       vectors-size = omega (arith, h .vectors-size);
-      reached = omega (arith, total-is);
-      shut = p .shut;
-      settled = p .settled;
     }
 
     pub going-settled : {then tree″ : List ℕ} {k : ℕ} → Closed s v → SettledAs s then tree″ b k → Going s then tree″ roots′ b v b k

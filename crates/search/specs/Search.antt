@@ -168,32 +168,31 @@ pub record Settled (s : Sheet) (tree : List ℕ) (b n : ℕ) : Type 0 where
   pub front : take (length bytes) tree ≡ bytes
   pub room : treeBytes s ≤ length tree
 
--- the bars from bar `from` on that are before bar e are built, behind those before them
-pub record BarsBuildEntry (s : Sheet) (plan units rows tree vectors roots : List ℕ) (start from e n : ℕ) : Type 0 where
+-- the bars from bar `from` on that are before bar e may be settled: the rows of all bars before bar e are stored, nothing is carried into
+-- bar `from`, the bars before it are settled, and bar e is reached
+pub record Ripe (s : Sheet) (plan units rows tree roots : List ℕ) (start from e n : ℕ) : Type 0 where
   pub entry : BarsEntry s plan units rows start (s .playing .bars)
   pub rising : from ≤ e
   pub end-in : e ≤ s .playing .bars
-  pub vectors-are : VectorsFrom s vectors e from
   pub roots-are : RootsTo s roots e 0
   pub reached : beforeBars s e 0 < NONE
   pub shut : Shut s from
   pub settled : Settled s tree from n
 
--- and are settled with them
+-- with the vectors behind them
+pub record BarsBuildEntry (s : Sheet) (plan units rows tree vectors roots : List ℕ) (start from e n : ℕ) : Type 0 where
+  pub ripe : Ripe s plan units rows tree roots start from e n
+  pub vectors-are : VectorsFrom s vectors e from
+
+-- with a table to be filled with the vectors
+pub record SettleEntry (s : Sheet) (plan units rows tree roots vectors : List ℕ) (start from e n : ℕ) : Type 0 where
+  pub ripe : Ripe s plan units rows tree roots start from e n
+  pub vectors-size : 4 * (e + 1) ≤ length vectors
+
+-- they are settled
 pub record SettledAs (s : Sheet) (rows tree : List ℕ) (e n : ℕ) : Type 0 where
   pub settled : Settled s tree e n
   pub sound : Sound s rows
-
--- the same, with a table to be filled with the vectors
-pub record SettleEntry (s : Sheet) (plan units rows tree roots vectors : List ℕ) (start from e n : ℕ) : Type 0 where
-  pub entry : BarsEntry s plan units rows start (s .playing .bars)
-  pub rising : from ≤ e
-  pub end-in : e ≤ s .playing .bars
-  pub roots-are : RootsTo s roots e 0
-  pub vectors-size : 4 * (e + 1) ≤ length vectors
-  pub reached : beforeBars s e 0 < NONE
-  pub shut : Shut s from
-  pub settled : Settled s tree from n
 
 -- all bars, with tables of the lengths that they need
 pub record ForwardEntry (s : Sheet) (plan units order rows tree roots vectors : List ℕ) (start count : ℕ) : Type 0 where

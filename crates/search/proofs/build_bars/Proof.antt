@@ -25,7 +25,7 @@ loop-holds : tie.Need-loop-holds Inv-loop μ-loop
 loop-holds c =
     let start = c .before .before .before .before in
     let h = start .pre .1 in
-    (h .rising, omega arith, λ s h. in-bars-none h)
+    (h .ripe .rising, omega arith, λ s h. in-bars-none h)
 
 enter-requires : tie.Need-enter-requires Inv-loop μ-loop
 enter-requires c κs =
@@ -34,14 +34,14 @@ enter-requires c κs =
     let loop-test = c .loop-test in
     let s = start .pre .0 in
     let h = start .pre .1 in
-    (s, bar-enter (h .entry) (loop .b) (omega (arith, loop-test .taken, h .end-in)))
+    (s, bar-enter (h .ripe .entry) (loop .b) (omega (arith, loop-test .taken, h .ripe .end-in)))
 
 mul-load : tie.Need-mul-load Inv-loop μ-loop
 mul-load c =
     let start = c .before .before .before .before .before .before .before in
     let loop-test = c .before .loop-test in
     let h = start .pre .1 in
-    record { fits = omega (arith, few-bars (h .entry), h .end-in, loop-test .taken) }
+    record { fits = omega (arith, few-bars (h .ripe .entry), h .ripe .end-in, loop-test .taken) }
 
 mul-load-2 : tie.Need-mul-load-2 Inv-loop μ-loop
 mul-load-2 c =
@@ -63,7 +63,7 @@ add-load c =
     let h = start .pre .1 in
     let below = loop-test .taken in
     let so-far = loop .inv .2 s h in
-    record { fits = omega (arith, few-bars (h .entry), h .end-in, below, bar-carry h so-far (loop .inv .1) below) }
+    record { fits = omega (arith, few-bars (h .ripe .entry), h .ripe .end-in, below, bar-carry h so-far (loop .inv .1) below) }
 
 load-requires : tie.Need-load-requires Inv-loop μ-loop
 load-requires c κs =
@@ -81,28 +81,28 @@ cast-lo c =
     let start = c .before .before .before .before .before .before .before .before in
     let loop-test = c .before .before .loop-test in
     let h = start .pre .1 in
-    omega (arith, few-bars (h .entry), h .end-in, loop-test .taken)
+    omega (arith, few-bars (h .ripe .entry), h .ripe .end-in, loop-test .taken)
 
 mul-lo : tie.Need-mul-lo Inv-loop μ-loop
 mul-lo c =
     let start = c .before .before .before .before .before .before .before .before in
     let loop-test = c .before .before .loop-test in
     let h = start .pre .1 in
-    record { fits = omega (arith, few-bars (h .entry), h .end-in, loop-test .taken) }
+    record { fits = omega (arith, few-bars (h .ripe .entry), h .ripe .end-in, loop-test .taken) }
 
 add-b : tie.Need-add-b Inv-loop μ-loop
 add-b c =
     let start = c .before .before .before .before .before .before .before .before in
     let loop-test = c .before .before .loop-test in
     let h = start .pre .1 in
-    record { fits = omega (arith, few-bars (h .entry), h .end-in, loop-test .taken) }
+    record { fits = omega (arith, few-bars (h .ripe .entry), h .ripe .end-in, loop-test .taken) }
 
 mul-load-3 : tie.Need-mul-load-3 Inv-loop μ-loop
 mul-load-3 c =
     let start = c .before .before .before .before .before .before .before .before in
     let loop-test = c .before .before .loop-test in
     let h = start .pre .1 in
-    record { fits = omega (arith, few-bars (h .entry), h .end-in, loop-test .taken) }
+    record { fits = omega (arith, few-bars (h .ripe .entry), h .ripe .end-in, loop-test .taken) }
 
 load-requires-2 : tie.Need-load-requires-2 Inv-loop μ-loop
 load-requires-2 c κs =
@@ -127,7 +127,7 @@ build-requires c κs =
     let h = start .pre .1 in
     let below = loop-test .taken in
     let so-far = loop .inv .2 s h in
-    let is-bar = enter .ensures s (bar-enter (h .entry) (loop .b) (omega (arith, below, h .end-in))) in
+    let is-bar = enter .ensures s (bar-enter (h .ripe .entry) (loop .b) (omega (arith, below, h .ripe .end-in))) in
     (s, bar-build h so-far (loop .inv .1) below (load .ensures) (load2 .ensures) is-bar)
 
 loop-less : tie.Need-loop-less Inv-loop μ-loop
@@ -146,7 +146,7 @@ loop-again c =
       omega (arith, loop .inv .1),
       λ s h.
           let so-far = loop .inv .2 s h in
-          let is-bar = enter .ensures s (bar-enter (h .entry) (loop .b) (omega (arith, below, h .end-in))) in
+          let is-bar = enter .ensures s (bar-enter (h .ripe .entry) (loop .b) (omega (arith, below, h .ripe .end-in))) in
           let told = build .ensures s (bar-build h so-far (loop .inv .1) below (load .ensures) (load2 .ensures) is-bar) in
           in-bars-more h so-far (loop .inv .1) below (load .ensures) (load2 .ensures) {rows″ = build .last .1 .1 .0}
           {then = build .last .1 .1 .1 .0} told,
@@ -159,7 +159,7 @@ same-length c =
     let s = start .pre .0 in
     let h = start .pre .1 in
     let so-far = loop .inv .2 s h in
-    so-far .sound .size ∙ sym (h .entry .sound .size)
+    so-far .sound .size ∙ sym (h .ripe .entry .sound .size)
 
 same-length-2 : tie.Need-same-length-2 Inv-loop μ-loop
 same-length-2 c =

@@ -1,8 +1,6 @@
--- `rule_pair` meets its contract: the cells of the part with the onset, and what the plan has of the others, fit. Assumes nothing.
-use mathlib.Core.Path.{refl}
+-- `rule_pair` meets its contract: the cells of the part with the onset stand in the scratch array. Assumes nothing.
 use native.Mathlib.Omega.{arith}
-use Rattle.filling.specs.RuleLaws.{rule-asked, rule-place, cells-low, ways-low, rule-told}
-use borrow.Author.Needs.{needs}
+use Rattle.filling.specs.RuleLaws.{rule-asked, rule-place, rule-way, rule-told}
 use Rattle.filling.proofs.fill.rule_pair.Statement.{statement}
 use Rattle.filling.proofs.fill.rule_pair.Tie as tie
 
@@ -35,66 +33,19 @@ pair-at-requires c κs =
     let child = c .child in
     rule-place (start .pre .1) (child .ensures) .0
 
-mul-zero : tie.Need-mul-zero
-mul-zero c = search needs
-
-mul-one : tie.Need-mul-one
-mul-one c = search needs
-
-way-requires : tie.Need-way-requires
-way-requires c κs =
-    let start = c .before .before .before .before .before in
-    (rule-asked (start .pre .1) .0, rule-asked (start .pre .1) .1, omega arith)
-
-add-least : tie.Need-add-least
-add-least c =
-    let start = c .before .before .before .before .before .before in
-    let child = c .before .before .before .before .child in
-    let pair-at = c .before .before .before .pair-at in
-    let way = c .way in
-    let low = cells-low (start .pre .1) (child .ensures) (pair-at .ensures) in
-    omega (arith, low .0, way .ensures, ways-low (start .pre .1) .0)
-
-way-requires-2 : tie.Need-way-requires-2
-way-requires-2 c κs =
-    let start = c .before .before .before .before .before .before in
-    (rule-asked (start .pre .1) .0, rule-asked (start .pre .1) .1, omega arith)
-
-add-least-2 : tie.Need-add-least-2
-add-least-2 c =
-    let start = c .before .before .before .before .before .before .before in
-    let child = c .before .before .before .before .before .child in
-    let pair-at = c .before .before .before .before .pair-at in
-    let way2 = c .way2 in
-    let low = cells-low (start .pre .1) (child .ensures) (pair-at .ensures) in
-    omega (arith, low .1, way2 .ensures, ways-low (start .pre .1) .1)
-
-least-requires : tie.Need-least-requires
-least-requires c κs = search needs
-
-way-requires-3 : tie.Need-way-requires-3
-way-requires-3 c κs =
-    let start = c .before .before .before .before .before .before .before .before in
-    (rule-asked (start .pre .1) .0, rule-asked (start .pre .1) .1, omega arith)
-
-add-b : tie.Need-add-b
-add-b c =
-    let start = c .before .before .before .before .before .before .before .before .before in
-    let child = c .before .before .before .before .before .before .before .child in
-    let pair-at = c .before .before .before .before .before .before .pair-at in
-    let way3 = c .way3 in
-    let low = cells-low (start .pre .1) (child .ensures) (pair-at .ensures) in
-    omega (arith, low .1, way3 .ensures, ways-low (start .pre .1) .2)
+by-way-requires : tie.Need-by-way-requires
+by-way-requires c κs =
+    let start = c .before .before .before in
+    let child = c .before .child in
+    let pair-at = c .pair-at in
+    (start .pre .0, rule-way (start .pre .1) (child .ensures) (pair-at .ensures))
 
 returns : tie.Need-returns
 returns c =
-    let child = c .before .before .before .before .before .before .before .child in
-    let pair-at = c .before .before .before .before .before .before .pair-at in
-    let way = c .before .before .before .way in
-    let way2 = c .before .before .way2 in
-    let least = c .before .least in
-    let way3 = c .way3 in
-    λ s e. rule-told e (child .ensures) (pair-at .ensures) (way .ensures) (way2 .ensures) (way3 .ensures) (least .ensures) refl
+    let child = c .before .before .child in
+    let pair-at = c .before .pair-at in
+    let by-way = c .by-way in
+    λ s e. rule-told e (child .ensures) (pair-at .ensures) (by-way .ensures)
 
 pub rule-pair-spec : {M : Type 1} → statement M
 rule-pair-spec =
@@ -105,13 +56,5 @@ rule-pair-spec =
     mul-pair-at-2
     add-pair-at
     pair-at-requires
-    mul-zero
-    mul-one
-    way-requires
-    add-least
-    way-requires-2
-    add-least-2
-    least-requires
-    way-requires-3
-    add-b
+    by-way-requires
     returns)

@@ -28,9 +28,8 @@ pub +part-one+rule-one+solve-one-spec : {M : Type 1} → statement M
     (part-needs.returns t) (part-needs.solve-one-requires t) (part-needs.same-length-2 t) (part-needs.returns-2 t))
     (λ t. rule-one-lts.spec (rule-needs.calls t) (rule-one-at t) rule-one.Post (rule-needs.length-requires t) (rule-needs.div-i t)
     (rule-needs.cast-part t) (rule-needs.child-requires t) (rule-needs.mul-lo t) (rule-needs.add-lo t) (rule-needs.part-one-requires t)
-    (rule-needs.mul-zero t) (rule-needs.mul-one t) (rule-needs.way-requires t) (rule-needs.add-least t) (rule-needs.way-requires-2 t)
-    (rule-needs.add-least-2 t) (rule-needs.least-requires t) (rule-needs.way-requires-3 t) (rule-needs.add-b t)
-    (rule-needs.least-requires-2 t) (rule-needs.least-requires-3 t) (rule-needs.same-length t) (rule-needs.returns t))
+    (rule-needs.by-way-requires t) (rule-needs.least-requires t) (rule-needs.least-requires-2 t) (rule-needs.same-length t)
+    (rule-needs.returns t))
     λ t. solve-one-lts.spec (solve-needs.calls t) (solve-one-at t) solve-one.Post solve-needs.Inv-loop solve-needs.μ-loop
     (solve-needs.length-requires t) (solve-needs.mul-d t) (solve-needs.element-copy-out-d t) (solve-needs.sub-d t)
     (solve-needs.last-division-requires t) (solve-needs.leaf-one-requires t) (solve-needs.first-division-requires t)

@@ -3,13 +3,13 @@ use Prim.Native.Nat.{ℕ}
 use mathlib.Core.Path.{refl}
 use native.Mathlib.Omega.{arith}
 use borrow.Author.Needs.{needs}
-use Rattle.rows.specs.OneCallLaws.{rule-length, rule-positive, rule-child, rule-near, rule-part, rule-low, ways-low, rule-told}
+use Rattle.rows.specs.OneCallLaws.{rule-length, rule-positive, rule-child, rule-near, rule-part, rule-way, rule-told}
 use Rattle.rows.proofs.one.part_one.Reads as part-one
 use Rattle.rows.proofs.one.rule_one.Reads as rule-one
 use Rattle.rows.proofs.one.+part_one+rule_one+solve_one.Lts-rule_one as rule-one-lts
 use Rattle.plan.proofs.child.Reads as child-reads
 use Rattle.plan.proofs.length.Reads as length-reads
-use Rattle.plan.proofs.way.Reads as way-reads
+use Rattle.rows.proofs.one.by_way.Reads as by-way-reads
 use Rattle.rows.proofs.vector.least.Reads as least-reads
 use Rattle.rows.proofs.one.+part_one+rule_one+solve_one.Proof.Measures.{part-one-below, rule-one-at}
 
@@ -23,8 +23,8 @@ module _ (t : ℕ) where
     child-reads.Learnt,
     part-one-below t,
     part-one.Post,
-    way-reads.Asked,
-    way-reads.Learnt,
+    by-way-reads.Asked,
+    by-way-reads.Learnt,
     least-reads.Asked,
     least-reads.Learnt,
   )
@@ -73,105 +73,33 @@ module _ (t : ℕ) where
       let part = rule-part e (length .ensures) refl (child .ensures) in
       (omega (arith, start .pre .0), (start .pre .1 .0, part))
 
-  pub mul-zero : rule-one-lts.Need-mul-zero calls (rule-one-at t) rule-one.Post
-  mul-zero c =
-      let e = c .before .before .before .before .before .before .before .before .before .before .before .before .pre .1 .1 in
-      let length = c .before .before .before .before .before .before .before .before .before .before .length in
-      let child = c .before .before .before .before .before .before .before .child in
-      let row = c .before .before .before .part-one .ensures _ (rule-part e (length .ensures) refl (child .ensures)) in
-      omega (arith, rule-low e (length .ensures) refl (child .ensures) row .0)
-
-  pub mul-one : rule-one-lts.Need-mul-one calls (rule-one-at t) rule-one.Post
-  mul-one c =
-      let e = c .before .before .before .before .before .before .before .before .before .before .before .before .before .pre .1 .1 in
-      let length = c .before .before .before .before .before .before .before .before .before .before .before .length in
-      let child = c .before .before .before .before .before .before .before .before .child in
-      let row = c .before .before .before .before .part-one .ensures _ (rule-part e (length .ensures) refl (child .ensures)) in
-      omega (arith, rule-low e (length .ensures) refl (child .ensures) row .1)
-
-  pub way-requires : rule-one-lts.Need-way-requires calls (rule-one-at t) rule-one.Post
-  way-requires c κs =
-      let e = c .before .before .before .before .before .before .before .before .before .before .before .before .before .pre .1 .1 in
-      let length = c .before .before .before .before .before .before .before .before .before .before .before .length in
-      let asked = rule-child e (length .ensures) refl in
-      (asked .0, asked .1, omega arith)
-
-  pub add-least : rule-one-lts.Need-add-least calls (rule-one-at t) rule-one.Post
-  add-least c =
-      let e = c .before .before .before .before .before .before .before .before .before .before
-      .before .before .before .before .pre .1 .1 in
-      let length = c .before .before .before .before .before .before .before .before .before .before .before .before .length in
-      let child = c .before .before .before .before .before .before .before .before .before .child in
-      let row = c .before .before .before .before .before .part-one .ensures _ (rule-part e (length .ensures) refl (child .ensures)) in
-      let ways = ways-low e (length .ensures) refl (child .ensures) row in
-      omega (arith, rule-low e (length .ensures) refl (child .ensures) row .0, c .way .ensures, ways .0)
-
-  pub way-requires-2 : rule-one-lts.Need-way-requires-2 calls (rule-one-at t) rule-one.Post
-  way-requires-2 c κs =
-      let e = c .before .before .before .before .before .before .before .before .before .before
-      .before .before .before .before .pre .1 .1 in
-      let length = c .before .before .before .before .before .before .before .before .before .before .before .before .length in
-      let asked = rule-child e (length .ensures) refl in
-      (asked .0, asked .1, omega arith)
-
-  pub add-least-2 : rule-one-lts.Need-add-least-2 calls (rule-one-at t) rule-one.Post
-  add-least-2 c =
-      let back = c .before .before .before .before .before .before .before .before in
-      let start = back .before .before .before .before .before .before .before in
-      let length = back .before .before .before .before .before .length in
-      let child = back .before .before .child in
-      let part-one = c .before .before .before .before .before .before .part-one in
+  pub by-way-requires : rule-one-lts.Need-by-way-requires calls (rule-one-at t) rule-one.Post
+  by-way-requires c κs =
+      let start = c .before .before .before .before .before .before .before .before .before .before .before in
+      let length = c .before .before .before .before .before .before .before .before .before .length in
+      let child = c .before .before .before .before .before .before .child in
+      let part-one = c .before .before .part-one in
       let e = start .pre .1 .1 in
       let row = part-one .ensures _ (rule-part e (length .ensures) refl (child .ensures)) in
-      let ways = ways-low e (length .ensures) refl (child .ensures) row in
-      omega (arith, rule-low e (length .ensures) refl (child .ensures) row .1, c .way2 .ensures, ways .1)
+      (start .pre .1 .0, rule-way e (length .ensures) refl (child .ensures) row)
 
   pub least-requires : rule-one-lts.Need-least-requires calls (rule-one-at t) rule-one.Post
   least-requires c κs = search needs
 
-  pub way-requires-3 : rule-one-lts.Need-way-requires-3 calls (rule-one-at t) rule-one.Post
-  way-requires-3 c κs =
-      let back = c .before .before .before .before .before .before .before .before in
-      let start = back .before .before .before .before .before .before .before .before in
-      let length = back .before .before .before .before .before .before .length in
-      let e = start .pre .1 .1 in
-      let asked = rule-child e (length .ensures) refl in
-      (asked .0, asked .1, omega arith)
-
-  pub add-b : rule-one-lts.Need-add-b calls (rule-one-at t) rule-one.Post
-  add-b c =
-      let back = c .before .before .before .before .before .before .before .before in
-      let start = back .before .before .before .before .before .before .before .before .before in
-      let length = back .before .before .before .before .before .before .before .length in
-      let child = back .before .before .before .before .child in
-      let part-one = c .before .before .before .before .before .before .before .before .part-one in
-      let e = start .pre .1 .1 in
-      let row = part-one .ensures _ (rule-part e (length .ensures) refl (child .ensures)) in
-      let ways = ways-low e (length .ensures) refl (child .ensures) row in
-      omega (arith, rule-low e (length .ensures) refl (child .ensures) row .1, c .way3 .ensures, ways .2)
-
   pub least-requires-2 : rule-one-lts.Need-least-requires-2 calls (rule-one-at t) rule-one.Post
   least-requires-2 c κs = search needs
-
-  pub least-requires-3 : rule-one-lts.Need-least-requires-3 calls (rule-one-at t) rule-one.Post
-  least-requires-3 c κs = search needs
 
   pub same-length : rule-one-lts.Need-same-length calls (rule-one-at t) rule-one.Post
   same-length c = search needs
 
   pub returns : rule-one-lts.Need-returns calls (rule-one-at t) rule-one.Post
   returns c =
-      let back = c .before .before .before .before .before .before .before .before in
-      let length = back .before .before .before .before .before .before .before .before .before .length in
-      let child = back .before .before .before .before .before .before .child in
-      let part-one = back .before .before .part-one in
-      let way = c .before .before .before .before .before .way in
-      let way2 = c .before .before .before .before .way2 in
-      let least = c .before .before .before .least in
-      let way3 = c .before .before .way3 in
-      let least2 = c .before .least2 in
-      let least3 = c .least3 in
+      let length = c .before .before .before .before .before .before .before .before .before .before .before .before .length in
+      let child = c .before .before .before .before .before .before .before .before .before .child in
+      let part-one = c .before .before .before .before .before .part-one in
+      let by-way = c .before .before .by-way in
+      let least = c .before .least in
+      let least2 = c .least2 in
       λ s e.
       let row = part-one .ensures s (rule-part e (length .ensures) refl (child .ensures)) in
-      rule-told e (length .ensures) refl (child .ensures) row (way .ensures) (way2 .ensures) (way3 .ensures) (least .ensures)
-      (least2 .ensures) (least3 .ensures)
+      rule-told e (length .ensures) refl (child .ensures) row (by-way .ensures) (least .ensures) (least2 .ensures)
