@@ -5,8 +5,8 @@
    handed to one call must not overlap. Nothing is kept between calls, and calls on different slices may run side by side. There is no heap:
    a thread that calls rhythm_find wants 256 KiB of stack (on x86-64 128 KiB were enough for the heaviest sheets of bench/run).
 
-   A sheet, its valid trees, R, D, totals, score lines and refusal numbers are those of document 01; docs/PROOF.md says where each promise
-   is stated and proved. A refusal gives its number and its line (0 where it has none), zeros elsewhere, and keeps every slice but the work
+   A sheet, its valid trees, R, D, totals, score lines and refusal numbers are those of document 01; docs/FORMAT.md explains them, and
+   docs/PROOF.md says where each promise is stated and proved. examples/ has a program in C and one in Rust. A refusal gives its number and its line (0 where it has none), zeros elsewhere, and keeps every slice but the work
    slice after refusal 11. */
 #ifndef RHYTHM_H
 #define RHYTHM_H
