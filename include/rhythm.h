@@ -6,13 +6,18 @@
    a thread that calls rhythm_find wants 256 KiB of stack (on x86-64 128 KiB were enough for the heaviest sheets of bench/run).
 
    A sheet, its valid trees, R, D, totals, score lines and refusal numbers are those of document 01; docs/FORMAT.md explains them, and
-   docs/PROOF.md says where each promise is stated and proved. examples/ has a program in C and one in Rust. A refusal gives its number and its line (0 where it has none), zeros elsewhere, and keeps every slice but the work
-   slice after refusal 11. */
+   docs/PROOF.md says where each promise is stated and proved. A refusal gives its number and its line (0 where it has none), zeros
+   elsewhere, and keeps every slice but the work slice after refusal 11. examples/ has a program in C and one in Rust. */
 #ifndef RHYTHM_H
 #define RHYTHM_H
 
 #include <stddef.h>
 #include <stdint.h>
+
+/* The most bytes that an accepted text has, and that the score text of any valid tree has: 53 + 19 for each leaf + 2 for each onset, where
+   a tree has at most B + 80 * N bytes, B bars and N onsets being at most 64 and 512. */
+#define RHYTHM_TEXT_MOST 16384
+#define RHYTHM_SCORE_MOST 780533
 
 #ifdef __cplusplus
 extern "C" {
@@ -35,7 +40,7 @@ uint32_t rhythm_onset_unit(const uint8_t *text, size_t text_length, size_t i);
 void rhythm_price(const uint8_t *text, size_t text_length, const uint8_t *list, size_t list_length, uint64_t answer[6]);
 
 /* Writes the score lines of a list of bytes from the front of the score slice. answer: refusal number, line, byte count. 13: the slice is
-   shorter than the exact text. Bytes behind the text are kept. */
+   shorter than the exact text; one of RHYTHM_SCORE_MOST bytes never is. Bytes behind the text are kept. */
 void rhythm_write(const uint8_t *text, size_t text_length, const uint8_t *list, size_t list_length, uint8_t *score, size_t score_length,
                   uint64_t answer[3]);
 
