@@ -4,6 +4,7 @@ pub mod Outcomes
 pub mod FindingLaws
 pub mod Numbers
 pub mod Reporting
+pub mod Restoring
 pub mod ReportingLaws
 pub mod EveryReading
 pub mod Cases

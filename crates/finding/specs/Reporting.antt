@@ -46,6 +46,11 @@ abbrev pub lineWith : Page → List ℕ → List ℕ
 lineWith (scorePage text) line = line
 lineWith (refusalPage k n) line = refusalLine k n
 
+-- the tree slice: finding "writes the tree from the front; later bytes are kept"; a refusal keeps it, 13 too
+abbrev pub treeWith : Page → (bytes tree : List ℕ) → List ℕ
+treeWith (scorePage text) bytes tree = over bytes tree
+treeWith (refusalPage k n) bytes tree = tree
+
 -- so the program prints, by the answer
 abbrev pub printed : Shown → (score line : List ℕ) → List ℕ
 printed (Score n) score line = take n score
@@ -55,6 +60,11 @@ printed Line score line = line
 unfoldable pub pageWithin : (room : ℕ) → (text : List ℕ) → Page
 pageWithin room text = cond (leb (length text) room) (scorePage text) (refusalPage 13 0)
 
+-- the score lines of a tree, as far as the score slice has room
+abbrev pub pageOf : (s : Sheet) → (bytes : List ℕ) → (weight distance room : ℕ) → Page
+pageOf s bytes weight distance room =
+    pageWithin room (scoreText (s .playing .bars) weight distance (totalOf s weight distance) (entriesOf s bytes))
+
 -- the answer, the score slice and the line slice of a page, and the bytes to print
 pub record Prints (page : Page) (score scoreAfter line lineAfter : List ℕ) (answer : Shown) : Type 0 where
   pub text : printed answer scoreAfter lineAfter ≡ pageText page
@@ -62,16 +72,14 @@ pub record Prints (page : Page) (score scoreAfter line lineAfter : List ℕ) (an
   pub score-is : scoreAfter ≡ scoreWith page score
   pub line-is : lineAfter ≡ lineWith page line
 
--- a least tree of the sheet, its score lines as far as the score slice has room, and the tree at the front of the tree slice
+-- a least tree of the sheet, its score lines as far as the score slice has room, and with them the tree at the front of the tree slice
 pub record PrintsTree (s : Sheet) (tree treeAfter score scoreAfter line lineAfter : List ℕ) (answer : Shown) : Type 0 where
   pub bytes : List ℕ
   pub weight : ℕ
   pub distance : ℕ
   pub least : LeastTree s bytes weight distance
-  pub tree-written : treeAfter ≡ over bytes tree
-  pub page :
-      Prints (pageWithin (length score) (scoreText (s .playing .bars) weight distance (totalOf s weight distance) (entriesOf s bytes)))
-      score scoreAfter line lineAfter answer
+  pub tree-is : treeAfter ≡ treeWith (pageOf s bytes weight distance (length score)) bytes tree
+  pub page : Prints (pageOf s bytes weight distance (length score)) score scoreAfter line lineAfter answer
 
 -- every slice and the answer, by what finding comes to
 abbrev pub Printed : Outcome → (tree treeAfter work workAfter score scoreAfter line lineAfter : List ℕ) → Shown → Type 0

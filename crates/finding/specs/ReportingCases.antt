@@ -27,7 +27,7 @@ use Rattle.finding.specs.Finding.{hasTree, Outcome, found, findText}
 use Rattle.finding.specs.Outcomes.{one-found, sheet-found}
 use Rattle.finding.specs.Cases.{onlyTree, everyList}
 use Rattle.finding.specs.FindingCases.{one-least}
-use Rattle.finding.specs.Reporting.{refusalLine, pageText, pageWithin, printed, PrintsTree, Printed, Reports}
+use Rattle.finding.specs.Reporting.{Page, refusalLine, pageText, treeWith, pageWithin, printed, PrintsTree, Printed, Reports}
 use Rattle.finding.specs.ReportingLaws.{within-lines, within-short}
 
 -- ---- lines of refusals
@@ -78,6 +78,18 @@ module _ (tree treeAfter work workAfter score scoreAfter line lineAfter : List �
           → (p .bytes ≡ 1 ∷ 3 ∷ 3 ∷ []) × (p .weight ≡ 8) × (p .distance ≡ 1008)
           → printed shown scoreAfter lineAfter ≡ pageText (pageWithin (length score) linesOfS)
       go p (eb, er, ed) = p .page .text ∙ rw (eb, er, ed, S-lines) refl
+
+  -- the tree goes with the score lines, and a refusal keeps the tree slice
+  S-slice : treeAfter ≡ treeWith (pageWithin (length score) linesOfS) (1 ∷ 3 ∷ 3 ∷ []) tree
+  S-slice = go S-tree (S-least (S-tree .bytes) (S-tree .weight) (S-tree .distance) (S-tree .least))
+    where
+      go : (p : PrintsTree sheetS tree treeAfter score scoreAfter line lineAfter shown)
+          → (p .bytes ≡ 1 ∷ 3 ∷ 3 ∷ []) × (p .weight ≡ 8) × (p .distance ≡ 1008)
+          → treeAfter ≡ treeWith (pageWithin (length score) linesOfS) (1 ∷ 3 ∷ 3 ∷ []) tree
+      go p (eb, er, ed) = p .tree-is ∙ rw (eb, er, ed, S-lines) refl
+
+  pub S-kept : length score < 95 → treeAfter ≡ tree
+  S-kept h = S-slice ∙ ap (λ (p : Page). treeWith p (1 ∷ 3 ∷ 3 ∷ []) tree) (within-short (length score) linesOfS h)
 
   pub S-printed : 95 ≤ length score → printed shown scoreAfter lineAfter ≡ linesOfS
   S-printed h = S-text ∙ ap pageText (within-lines (length score) linesOfS h)

@@ -335,7 +335,7 @@ fn forward<'a>(
 }
 
 // Copies the first n bytes.
-fn copy(from: &[u8], to: &mut [u8], n: usize)
+pub fn copy(from: &[u8], to: &mut [u8], n: usize)
     requires { ⌜ (n ≤ length (now from)) × (n ≤ length (now to)) ⌝ }
     ensures { λ _. ⌜ now (to .exit) ≡ over (take n (now (from .entry))) (now (to .entry)) ⌝ }
 {

@@ -47,6 +47,16 @@ module _ {A : Type 0} where
   pub drop-over : (bs xs : List A) → length bs ≤ length xs → drop (length bs) (over bs xs) ≡ drop (length bs) xs
   drop-over bs xs h = rw (over-drop bs xs h) (drop-append-seam bs (drop (length bs) xs))
 
+  -- what stood there, written back over as much or more
+  pub over-back : (k : ℕ) (bs xs : List A) → length bs ≤ k → over (take k xs) (over bs xs) ≡ xs
+  unfolding over
+  over-back zero [] xs h = refl
+  over-back zero (b ∷ bs) xs h = let f : ⊥ = omega arith in absurd f
+  over-back (suc k) [] [] h = refl
+  over-back (suc k) [] (x ∷ xs) h = ap (λ (l : List A). x ∷ l) (over-back k [] xs (omega arith))
+  over-back (suc k) (b ∷ bs) [] h = refl
+  over-back (suc k) (b ∷ bs) (x ∷ xs) h = ap (λ (l : List A). x ∷ l) (over-back k bs xs (omega arith))
+
   -- nothing written
   pub over-nil : (xs : List A) → over [] xs ≡ xs
   unfolding over
