@@ -53,7 +53,8 @@ module _ (text : List ℕ) {tree treeAfter work workAfter : List ℕ} {x : Price
   line-small = omega (arith, f .line, line-most text (length tree) (length work))
 
   -- what was written over the front of the tree slice is put back
-  put-back : (bs : List ℕ) → length bs ≤ 41024 → treeAfter ≡ over bs tree → (r : Shown) → r ≡ Line → restored r (take 41024 tree) treeAfter ≡ tree
+  put-back : (bs : List ℕ) → length bs ≤ 41024 → treeAfter ≡ over bs tree → (r : Shown) → r ≡ Line
+      → restored r (take 41024 tree) treeAfter ≡ tree
   put-back bs h e r q = rw (q, e) (over-back 41024 bs tree h)
 
   -- a refusal of finding
@@ -186,7 +187,7 @@ front-whole n xs h e = elim (decLt n 41024) [
 ]
 
 -- what was copied aside of a slice is its front
-pub copied-aside : (n : ℕ) (tree kept : List ℕ) → n ≤ length tree → n ≤ 41024 → (n < 41024 → n ≡ length tree)
+copied-aside : (n : ℕ) (tree kept : List ℕ) → n ≤ length tree → n ≤ 41024 → (n < 41024 → n ≡ length tree)
     → kept ≡ over (take n (take n tree)) (replicate 41024 0) → take n kept ≡ take 41024 tree
 copied-aside n tree kept fits h e k =
     rw k (

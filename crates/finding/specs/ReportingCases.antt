@@ -1,5 +1,5 @@
 -- The entry behind the program on document 01's sheet S: whatever meets `Reports` prints the three lines that "the program prints", or the
--- line of refusal 13 where the score slice is short of them. And some lines of refusals, by computation.
+-- line of refusal 13 where the score slice is short of them, and then keeps the tree slice. And some lines of refusals, by computation.
 use Prim.Native.Nat.{ℕ, _≤_, _<_}
 use mathlib.Core.Path.{_≡_, refl, ap, subst, _∙_}
 use mathlib.Core.Bool.{true}
@@ -71,29 +71,24 @@ module _ (tree treeAfter work workAfter score scoreAfter line lineAfter : List �
   S-tree =
       subst (λ (o : Outcome). Printed o tree treeAfter work workAfter score scoreAfter line lineAfter shown) S-outcome (r .is) .0
 
-  S-text : printed shown scoreAfter lineAfter ≡ pageText (pageWithin (length score) linesOfS)
-  S-text = go S-tree (S-least (S-tree .bytes) (S-tree .weight) (S-tree .distance) (S-tree .least))
+  abbrev page : Page
+  page = pageWithin (length score) linesOfS
+
+  -- what is printed, and the tree slice
+  S-shown : (printed shown scoreAfter lineAfter ≡ pageText page) × (treeAfter ≡ treeWith page (1 ∷ 3 ∷ 3 ∷ []) tree)
+  S-shown = go S-tree (S-least (S-tree .bytes) (S-tree .weight) (S-tree .distance) (S-tree .least))
     where
       go : (p : PrintsTree sheetS tree treeAfter score scoreAfter line lineAfter shown)
           → (p .bytes ≡ 1 ∷ 3 ∷ 3 ∷ []) × (p .weight ≡ 8) × (p .distance ≡ 1008)
-          → printed shown scoreAfter lineAfter ≡ pageText (pageWithin (length score) linesOfS)
-      go p (eb, er, ed) = p .page .text ∙ rw (eb, er, ed, S-lines) refl
-
-  -- the tree goes with the score lines, and a refusal keeps the tree slice
-  S-slice : treeAfter ≡ treeWith (pageWithin (length score) linesOfS) (1 ∷ 3 ∷ 3 ∷ []) tree
-  S-slice = go S-tree (S-least (S-tree .bytes) (S-tree .weight) (S-tree .distance) (S-tree .least))
-    where
-      go : (p : PrintsTree sheetS tree treeAfter score scoreAfter line lineAfter shown)
-          → (p .bytes ≡ 1 ∷ 3 ∷ 3 ∷ []) × (p .weight ≡ 8) × (p .distance ≡ 1008)
-          → treeAfter ≡ treeWith (pageWithin (length score) linesOfS) (1 ∷ 3 ∷ 3 ∷ []) tree
-      go p (eb, er, ed) = p .tree-is ∙ rw (eb, er, ed, S-lines) refl
-
-  pub S-kept : length score < 95 → treeAfter ≡ tree
-  S-kept h = S-slice ∙ ap (λ (p : Page). treeWith p (1 ∷ 3 ∷ 3 ∷ []) tree) (within-short (length score) linesOfS h)
+          → (printed shown scoreAfter lineAfter ≡ pageText page) × (treeAfter ≡ treeWith page (1 ∷ 3 ∷ 3 ∷ []) tree)
+      go p (eb, er, ed) = (p .page .text ∙ rw (eb, er, ed, S-lines) refl, p .tree-is ∙ rw (eb, er, ed, S-lines) refl)
 
   pub S-printed : 95 ≤ length score → printed shown scoreAfter lineAfter ≡ linesOfS
-  S-printed h = S-text ∙ ap pageText (within-lines (length score) linesOfS h)
+  S-printed h = S-shown .0 ∙ ap pageText (within-lines (length score) linesOfS h)
 
   pub S-refused : length score < 95 → printed shown scoreAfter lineAfter ≡ textOf "520D0000\n"
   unfolding refusalLine lineText bigEndian
-  S-refused h = S-text ∙ ap pageText (within-short (length score) linesOfS h)
+  S-refused h = S-shown .0 ∙ ap pageText (within-short (length score) linesOfS h)
+
+  pub S-kept : length score < 95 → treeAfter ≡ tree
+  S-kept h = S-shown .1 ∙ ap (λ (p : Page). treeWith p (1 ∷ 3 ∷ 3 ∷ []) tree) (within-short (length score) linesOfS h)
