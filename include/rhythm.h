@@ -15,7 +15,7 @@
 #include <stdint.h>
 
 /* The most bytes that an accepted text has, and that the score text of any valid tree has: 53 + 19 for each leaf + 2 for each onset, where
-   a tree has at most B + 80 * N bytes, B bars and N onsets being at most 64 and 512 (score-length and node-count in docs/PROOF.md). */
+   a tree has at most B + 80 * N bytes, B bars and N onsets being at most 64 and 512 (score-length and nodes-most in docs/PROOF.md). */
 #define RHYTHM_TEXT_MOST 16384
 #define RHYTHM_SCORE_MOST 780533
 

@@ -13,7 +13,7 @@ use Rattle.sheet.specs.declared.table.GrammarTable.{GrammarTable}
 use Rattle.sheet.specs.Sheet.{Rule, division, leaf, Sheet}
 use Rattle.sheet.specs.Held.{grammarTable}
 use Rattle.trees.specs.ValidTrees.{ruleAt, weightOf, weightAt, ruleWeight, totalOf}
-use Rattle.trees.specs.Theorems.{valid-bytes, node-count}
+use Rattle.trees.specs.Theorems.{valid-bytes, nodes-most}
 use Rattle.expansions.specs.Tables.{unpackedOf, cellOf, PackedRules}
 use Rattle.pricing.specs.Pricing.{priced, pricedOf}
 use Rattle.finding.specs.Figures.{weightIn, WeightEntry, FiguresEntry}
@@ -61,12 +61,7 @@ module _ {s : Sheet} {grammar : GrammarTable} {list : List ℕ} {R D total : ℕ
   weight-entry p = record {
     packed = p;
     below = every-weaken _ _ (λ r k. omega (arith, k, h .good .rules .most)) list (valid-bytes s list (h .tree .valid));
-    few = omega (
-      arith,
-      node-count s (h .duration) (h .good) list (h .tree .valid),
-      h .good .onsets .most,
-      h .good .onsets .sixty-four,
-    );
+    few = nodes-most s (h .duration) (h .good) list (h .tree .valid);
   }
 
   multiplier-is : grammar .multiplier ≡ s .grammar .multiplier

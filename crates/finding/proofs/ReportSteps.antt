@@ -12,11 +12,10 @@ use lib.Seq.{length-take-le, take-all, take-take}
 use Rattle.slices.specs.Over.{over, overFrom, over-nil, over-back, take-over}
 use Rattle.hextext.specs.Written.{lineText, pairsOf, hasRoom, LineWritten}
 use Rattle.sheet.specs.Sheet.{Sheet}
-use Rattle.sheet.specs.Good.{Good}
 use Rattle.sheet.specs.GoodLaws.{good}
-use Rattle.sizes.specs.Sizes.{treeBytes}
 use Rattle.trees.specs.ValidTrees.{totalOf}
 use Rattle.trees.specs.Leaves.{entriesOf}
+use Rattle.trees.specs.Theorems.{nodes-most}
 use Rattle.pricing.specs.declared.Priced.{Priced}
 use Rattle.pricing.specs.PricingLaws.{tree-priced}
 use Rattle.score.specs.declared.Written.{Written}
@@ -26,7 +25,7 @@ use Rattle.score.specs.Writing.{written, noRoom, textWithin, writePriced, write
 use Rattle.finding.specs.declared.Shown.{Shown}
 use Rattle.finding.specs.declared.Shown.the-variants.{Score, Line}
 use Rattle.finding.specs.Finding.{Outcome, refusal, noTree, found, findText, Gives, Finds}
-use Rattle.finding.specs.FindingLaws.{line-most, tree-fits, HandedBack, handed-back}
+use Rattle.finding.specs.FindingLaws.{line-most, HandedBack, handed-back}
 use Rattle.finding.specs.Reporting.{refusalLine, Page, scorePage, refusalPage, treeWith, pageWithin, Prints, Printed, Reports}
 use Rattle.finding.specs.Restoring.{restored}
 use Rattle.finding.specs.ReportingLaws.{within-lines, within-short, prints}
@@ -96,10 +95,7 @@ module _ (text : List ℕ) {tree treeAfter work workAfter : List ℕ} {x : Price
 
     -- no tree has more bytes than are put back
     few : length bytes ≤ 41024
-    unfolding treeBytes
-    few =
-        let ok : Good (back .duration) s = good text (back .duration) s (back .read) in
-        omega (arith, tree-fits s (back .duration) ok bytes (back .least .valid .valid), ok .onsets .sixty-four, ok .onsets .most)
+    few = nodes-most s (back .duration) (good text (back .duration) s (back .read)) bytes (back .least .valid .valid)
 
     -- writing gives its score lines, or 13
     wrote : (room : ℕ) → writeText text bytes room ≡ textWithin room lines

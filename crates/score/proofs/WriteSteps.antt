@@ -17,7 +17,7 @@ use Rattle.sheet.specs.Reading.{readSheet}
 use Rattle.sheet.specs.Held.{readingOf}
 use Rattle.trees.specs.ValidTrees.{ValidTree, totalOf}
 use Rattle.trees.specs.ValidTrees as trees
-use Rattle.trees.specs.Theorems.{node-count}
+use Rattle.trees.specs.Theorems.{nodes-most}
 use Rattle.expansions.specs.Tables.{PackedRules, RulesHeld}
 use Rattle.pricing.specs.declared.Priced.{Priced}
 use Rattle.pricing.specs.Pricing as pricing
@@ -93,10 +93,10 @@ module _ {s : Sheet} {g : GrammarTable} {p : PlayingTable} {list : List ℕ} {r 
 
   -- the counts are small
   pub few-leaves : (leaves ≤ 41024) × (p .count ≤ 512)
-  few-leaves =
-      let o = h .good .onsets in
-      let n : p .count ≤ 512 = omega (arith, onsets-are, o .most) in
-      (omega (arith, leaves-are, leaf-rules-most s list, node-count s (h .duration) (h .good) list (t .valid), o .sixty-four, o .most), n)
+  few-leaves = (
+    omega (arith, leaves-are, leaf-rules-most s list, nodes-most s (h .duration) (h .good) list (t .valid)),
+    omega (arith, onsets-are, h .good .onsets .most),
+  )
 
   abbrev text : List ℕ
   text = treeText s list (r .weight) (r .distance) (r .total)

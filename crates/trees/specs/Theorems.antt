@@ -39,6 +39,10 @@ module _ (s : Sheet) (d : ℕ) (good : Good d s) where
       let (R, D, p) = own-price s bs v in
       omega (arith, bars-room s, nodes-bound (instanceOf s) (room s) (room-pays s (good .rules)) bs (bars s) 0 _ (valid-derived s bs R D p))
 
+  -- so no tree of any sheet has more than 64 + 80 × 512 bytes
+  pub nodes-most : (bs : List ℕ) → ValidTree s bs → length bs ≤ 41024
+  nodes-most bs v = omega (arith, node-count bs v, good .onsets .sixty-four, good .onsets .most)
+
   pub part-node-count : (bs : List ℕ) (g : Item) (c : ℕ) (p : Price) → derive (instanceOf s) bs (g ∷ []) c ≡ some p → length bs ≤ room s g
   part-node-count bs g c p e = omega (arith, nodes-bound (instanceOf s) (room s) (room-pays s (good .rules)) bs (g ∷ []) c p e)
 
