@@ -1,18 +1,19 @@
 -- What the steps of reading a grammar promise.
-use Prim.Native.Nat.{ℕ, _+_, _≤_}
+use Prim.Native.Nat.{ℕ, _+_, _≤_, _<_}
 use mathlib.Core.Path.{_≡_}
 use mathlib.Core.Bool.{cond}
 use mathlib.Core.List.{List, [], _∷_, _++_}
 use lib.ListN.{length, drop}
 use lib.Dec.{eqb}
-use Rattle.hextext.specs.Text.{lines}
+use Rattle.hextext.specs.Text.{lines, lineBytes}
 use Rattle.sheet.specs.declared.line.Line.{Line}
 use Rattle.sheet.specs.declared.table.Rule.the-variants.{Division, Leaf}
 use Rattle.sheet.specs.declared.table.RuleCell.{RuleCell}
 use Rattle.sheet.specs.Sheet.{Grammar}
-use Rattle.sheet.specs.Reading.{byte, two, inRules, inOnsets, readLines, refused}
-use Rattle.sheet.specs.Held.{grammarTable, noPlaying, childCells}
-use Rattle.sheet.specs.SoFar.{GoodProgress}
+use Rattle.sheet.specs.Outcome.{refused}
+use Rattle.sheet.specs.Reading.{byte, two, lineOf, inRules, readLines}
+use Rattle.sheet.specs.Held.{grammarTable, childCells}
+use Rattle.sheet.specs.Good.{GoodRules}
 use Rattle.grammar.specs.declared.Rules.{Rules}
 
 -- the rule of a `44` or `4C` line without the nonterminals of its parts, and how many these are
@@ -30,15 +31,16 @@ abbrev pub PartsPut : (n : ℕ) (parts before after : List ℕ) → Type 0
 PartsPut n parts before after =
     (rs : List (List ℕ)) → length rs ≡ n → before ≡ childCells rs → after ≡ childCells (rs ++ (parts ∷ []))
 
--- the rules are read, up to the `45` line: a grammar, and the same outcome from the line after that on
+-- the rules are read, up to the `45` line: a grammar with a rule, and the same outcome from that line on
 pub record RulesDone (t : List ℕ) (at n : ℕ) (h : Grammar) (r : Rules) : Type 0 where
   pub grammar : Grammar
   pub table : r .grammar ≡ grammarTable grammar
-  pub good : GoodProgress (inOnsets grammar (r .duration .0) (noPlaying (r .bars)) 0)
-  pub within : r .next ≤ length t
+  pub good : GoodRules grammar
+  pub some-rule : 1 ≤ length (grammar .rules)
+  pub inside : r .next < length t
   pub line : r .line ≤ r .next + 1
-  pub rest : readLines (inRules h) n (lines (drop at t))
-      ≡ readLines (inOnsets grammar (r .duration .0) (noPlaying (r .bars)) 0) (r .line) (lines (drop (r .next) t))
+  pub kind : byte (lineOf (lineBytes (drop (r .next) t))) 0 ≡ 0x45
+  pub rest : readLines (inRules h) n (lines (drop at t)) ≡ readLines (inRules grammar) (r .line) (lines (drop (r .next) t))
 
 -- reading the rules from line n, at place `at`, on
 pub record RulesRead (t : List ℕ) (at n : ℕ) (h : Grammar) (r : Rules) : Type 0 where

@@ -1,30 +1,26 @@
-// The grammar of a sheet: the `47` line, and the lines up to the `45` line, which ends the rules.
+// The grammar of a sheet: the `47` line, and the rules behind it, up to the `45` line, which the playing begins with.
 ghost use mathlib.Core.Path.{_≡_};
 ghost use Prim.Native.Nat.{_+_, _*_, _≤_, _<_};
+ghost use lib.Dec.{ltb};
 ghost use lib.ListN.{length};
 ghost use Rattle.sheet.specs.Sheet.{Grammar};
-ghost use Rattle.sheet.specs.Reading.{headRefusal, headOf, divisionRefusal, leafRefusal, playingRefusal, rulesRefusal, allBelow, bytesFrom};
+ghost use Rattle.sheet.specs.Reading.{demand, headRefusal, headOf, divisionRefusal, leafRefusal, ruleRefusal, allBelow, bytesFrom};
 ghost use Rattle.sheet.specs.Held.{grammarTable, noGrammar};
 ghost use Rattle.sheet.specs.Good.{GoodRules};
 ghost use Rattle.grammar.specs.Steps.{cellOf, arityOf, PartsPut, RulesRead};
 use sheet::GrammarTable;
 use sheet::Line;
-use sheet::Micros;
 use sheet::Rule;
 use sheet::RuleCell;
-use sheet::four_at;
 use sheet::line_at;
 use sheet::narrow;
 use sheet::two_at;
 
-// What reading the rules gives: a refusal with its line; or, with number 0, the grammar, the `45` line's bars and duration, and the
-// number and the place of the line after it.
+// What reading the rules gives: a refusal with its line; or, with number 0, the grammar, and the number and the place of the `45` line.
 pub struct Rules {
     pub number: u8,
     pub line: usize,
     pub next: usize,
-    pub bars: u8,
-    pub duration: Micros,
     pub grammar: GrammarTable,
 }
 
@@ -150,33 +146,9 @@ fn leaf_refusal(q: u8, count: usize, l: Line) -> u8
     0
 }
 
-// The refusal of a `45` line; 0: none.
-fn playing_refusal(l: Line) -> u8
-    ensures { λ r. ⌜ r ≡ playingRefusal l ⌝ }
-{
-    if l.count != 6 {
-        return 4;
-    }
-    let bars = l.bytes[1];
-    if bars < 1 {
-        return 5;
-    }
-    if 64 < bars {
-        return 5;
-    }
-    let d = four_at(l, 2);
-    if d < 1000 {
-        return 5;
-    }
-    if 60000000 < d {
-        return 5;
-    }
-    0
-}
-
-// The refusal of a line after the `47` line and `count` rules; 0: none.
-fn rules_refusal(q: u8, count: usize, l: Line) -> u8
-    ensures { λ r. ⌜ r ≡ rulesRefusal q count l ⌝ }
+// The refusal of a line that is to add a rule, after `count` rules; 0: none.
+fn rule_refusal(q: u8, count: usize, l: Line) -> u8
+    ensures { λ r. ⌜ r ≡ ruleRefusal q count l ⌝ }
 {
     let kind = l.bytes[0];
     if kind == 0x44 {
@@ -185,13 +157,14 @@ fn rules_refusal(q: u8, count: usize, l: Line) -> u8
     if kind == 0x4C {
         return leaf_refusal(q, count, l);
     }
-    if kind != 0x45 {
-        return 3;
-    }
-    if count < 1 {
-        return 3;
-    }
-    playing_refusal(l)
+    3
+}
+
+// The refusal of a `45` line by the number of rules before it; 0: none. Its own demands are the playing's.
+fn end_refusal(count: usize) -> u8
+    ensures { λ r. ⌜ r ≡ demand (ltb 0 count) 3 0 ⌝ }
+{
+    if count < 1 { 3 } else { 0 }
 }
 
 // The rule of a `44` or `4C` line.
@@ -253,30 +226,26 @@ pub fn read_rules(text: &[u8], at: usize, line: usize, g: GrammarTable) -> Rules
     while at < text.len() {
         let taken = line_at(text, at);
         let l = taken.line;
-        at = taken.next;
         let n = table.count;
-        let number = rules_refusal(table.nonterminals, n, l);
+        if l.bytes[0] == 0x45 {
+            return Rules {
+                number: end_refusal(n),
+                line,
+                next: at,
+                grammar: table,
+            };
+        }
+        let number = rule_refusal(table.nonterminals, n, l);
         if number != 0 {
             return Rules {
                 number,
                 line,
                 next: at,
-                bars: 0,
-                duration: Micros(0),
                 grammar: table,
             };
         }
+        at = taken.next;
         line += 1;
-        if l.bytes[0] == 0x45 {
-            return Rules {
-                number: 0,
-                line,
-                next: at,
-                bars: l.bytes[1],
-                duration: Micros(four_at(l, 2)),
-                grammar: table,
-            };
-        }
         let cell = rule_of(l);
         table.rules[n] = cell;
         put_parts(&mut table.children, n, arity_of(l), l);
@@ -286,8 +255,6 @@ pub fn read_rules(text: &[u8], at: usize, line: usize, g: GrammarTable) -> Rules
         number: 3,
         line,
         next: at,
-        bars: 0,
-        duration: Micros(0),
         grammar: table,
     }
 }

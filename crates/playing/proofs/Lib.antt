@@ -1,3 +1,4 @@
 pub mod OnsetSteps
 pub mod Tables
 pub mod OnsetLoop
+pub mod HeadLine

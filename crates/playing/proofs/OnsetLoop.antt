@@ -11,14 +11,13 @@ use Rattle.sheet.specs.declared.line.Line.{Line}
 use Rattle.sheet.specs.declared.table.PlayingTable.{PlayingTable}
 use Rattle.playing.specs.declared.Latest.{Latest}
 use Rattle.playing.specs.declared.OnsetStep.{OnsetStep}
-use Rattle.playing.specs.declared.Onsets.{Onsets}
-use Rattle.sheet.specs.Sheet.{Grammar, Playing, unitOf, barOf, inBar}
-use Rattle.sheet.specs.Reading.{byte, four, lineOf, onsetRefusal, onsetOf, withOnset, inOnsets, refusal, after, readLines, refused}
-use Rattle.sheet.specs.Reading.{accepted}
+use Rattle.playing.specs.declared.Take.{Take}
+use Rattle.sheet.specs.Sheet.{Grammar, Playing, Timing, TimedSheet, inBar}
+use Rattle.sheet.specs.Outcome.{Outcome, refused, accepted}
+use Rattle.sheet.specs.Reading.{byte, four, lineOf, onsetRefusal, onsetOf, withOnset, inOnsets, refusal, after, readLines}
 use Rattle.sheet.specs.Held.{held, units, playingTable, noGrammar, noPlaying, micros}
-use Rattle.playing.specs.Steps.{latestOf}
 use Rattle.sheet.specs.SoFar.{GoodSoFar}
-use Rattle.playing.specs.Steps.{OnsetStepped, OnsetsRead}
+use Rattle.playing.specs.Steps.{latestOf, OnsetStepped, TakeRead}
 use Rattle.sheet.specs.Clock.{first-bar}
 use Rattle.sheet.specs.Laws.{cond-zero, onset-passed, read-on, read-stop, end-without, end-with}
 use Rattle.sheet.specs.GoodLaws.{good-onset}
@@ -27,25 +26,25 @@ use Rattle.playing.proofs.OnsetSteps.{stepped-held}
 use Rattle.playing.proofs.Tables.{onset-stored}
 
 -- of the lines from line n, at place `at`, on, those before line n′, at place at′, have been read as k onsets
-pub record OnsetsSoFar (t : List ℕ) (at n bars d : ℕ) (table : PlayingTable) (s : Latest) (at′ n′ k : ℕ) : Type 0 where
+pub record OnsetsSoFar (t : List ℕ) (at n bars : ℕ) (timing : Timing) (table : PlayingTable) (s : Latest) (at′ n′ k : ℕ) : Type 0 where
   pub playing : Playing
   pub last : ℕ
-  pub good : GoodSoFar d playing last
+  pub good : GoodSoFar timing playing last
   pub bars-are : bars ≡ playing .bars
   pub count : k ≡ length (playing .onsets)
   pub table-is : table ≡ playingTable playing
-  pub latest : s ≡ latestOf d playing last
+  pub latest : s ≡ latestOf timing playing last
   pub within : at′ ≤ length t
   pub line : n′ ≤ at′ + 1
   pub rest : (g : Grammar)
-      → readLines (inOnsets g d (noPlaying bars) 0) n (lines (drop at t)) ≡ readLines (inOnsets g d playing last) n′ (lines (drop at′ t))
+      → readLines (inOnsets g timing (noPlaying bars) 0) n (lines (drop at t)) ≡ readLines (inOnsets g timing playing last) n′ (lines (drop at′ t))
 
 -- none yet
-pub onsets-none : (t : List ℕ) (at n bars d : ℕ) (table : PlayingTable) → at ≤ length t → n ≤ at + 1 → GoodSoFar d (noPlaying bars) 0
+pub onsets-none : (t : List ℕ) (at n bars : ℕ) (timing : Timing) (table : PlayingTable) → at ≤ length t → n ≤ at + 1 → GoodSoFar timing (noPlaying bars) 0
     → table ≡ playingTable (noPlaying bars)
-    → OnsetsSoFar t at n bars d table (record { time = micros 0; bar = 0; run = 0 }) at n 0
+    → OnsetsSoFar t at n bars timing table (record { time = micros 0; bar = 0; run = 0 }) at n 0
 unfolding inBar
-onsets-none t at n bars d table w l good e =
+onsets-none t at n bars timing table w l good e =
     record {
       playing = noPlaying bars;
       last = 0;
@@ -53,14 +52,14 @@ onsets-none t at n bars d table w l good e =
       bars-are = refl;
       count = refl;
       table-is = e;
-      latest = λ j. record { time = micros 0; bar = first-bar d j; run = 0 };
+      latest = λ j. record { time = micros 0; bar = first-bar (timing .duration) j; run = 0 };
       within = w;
       line = l;
       rest = λ g. refl;
     }
 
-module _ {t : List ℕ} {at n bars d : ℕ} {table : PlayingTable} {s : Latest} {at′ n′ k : ℕ}
-    (h : OnsetsSoFar t at n bars d table s at′ n′ k) where
+module _ {t : List ℕ} {at n bars : ℕ} {timing : Timing} {table : PlayingTable} {s : Latest} {at′ n′ k : ℕ}
+    (h : OnsetsSoFar t at n bars timing table s at′ n′ k) where
   abbrev p : Playing
   p = h .playing
 
@@ -69,37 +68,37 @@ module _ {t : List ℕ} {at n bars d : ℕ} {table : PlayingTable} {s : Latest} 
 
   -- another line is read
   module _ (inside : at′ < length t) (l : Line) (held-is : l ≡ held b) (r : OnsetStep)
-      (step : (g : Grammar) (q : Playing) (last : ℕ) → GoodSoFar d q last → bars ≡ q .bars → k ≡ length (q .onsets) → s ≡ latestOf d q last
-      → OnsetStepped g d q last l r) where
-    stepped : (g : Grammar) → OnsetStepped g d p (h .last) (lineOf b) r
+      (step : (g : Grammar) (q : Playing) (last : ℕ) → GoodSoFar timing q last → bars ≡ q .bars → k ≡ length (q .onsets) → s ≡ latestOf timing q last
+      → OnsetStepped g timing q last l r) where
+    stepped : (g : Grammar) → OnsetStepped g timing p (h .last) (lineOf b) r
     stepped g =
-        stepped-held g d p (h .last) b r
-        (subst (λ (x : Line). OnsetStepped g d p (h .last) x r) held-is (step g p (h .last) (h .good) (h .bars-are) (h .count) (h .latest)))
+        stepped-held g timing p (h .last) b r
+        (subst (λ (x : Line). OnsetStepped g timing p (h .last) x r) held-is (step g p (h .last) (h .good) (h .bars-are) (h .count) (h .latest)))
 
     -- and refused
     pub onsets-stop : (g : Grammar) → (r .number ≡ 0 → ⊥)
-        → readLines (inOnsets g d (noPlaying bars) 0) n (lines (drop at t)) ≡ refused (r .number) n′
+        → readLines (inOnsets g timing (noPlaying bars) 0) n (lines (drop at t)) ≡ refused (r .number) n′
     onsets-stop g f =
         h .rest g
-        ∙ ap (readLines (inOnsets g d p (h .last)) n′) (lines-at t at′ inside)
-        ∙ read-stop (inOnsets g d p (h .last)) n′ b _ (r .number) (stepped g .number) f
+        ∙ ap (readLines (inOnsets g timing p (h .last)) n′) (lines-at t at′ inside)
+        ∙ read-stop (inOnsets g timing p (h .last)) n′ b _ (r .number) (stepped g .number) f
 
     -- or taken
     module _ (z : r .number ≡ 0) where
       abbrev L : Line
       L = lineOf b
 
-      met : onsetRefusal (p .bars) d (h .last) (length (p .onsets)) (inBar (barOf (unitOf d (four L 1))) (p .onsets)) L ≡ 0
+      met : onsetRefusal timing p (h .last) L ≡ 0
       unfolding refusal
       met = cond-zero (eqb (byte L 0) 0x4E) _ 2 (sym (stepped noGrammar .number) ∙ z) .1
 
       pub onsets-room : k < 512
-      onsets-room = let m = onset-passed (p .bars) d (h .last) (length (p .onsets)) _ L met .room in omega (arith, h .count)
+      onsets-room = let m = onset-passed timing p (h .last) L met .room in omega (arith, h .count)
 
       onward : (g : Grammar) (ls : List (List ℕ))
-          → readLines (inOnsets g d p (h .last)) n′ (b ∷ ls) ≡ readLines (inOnsets g d (withOnset p (onsetOf d L)) (four L 1)) (n′ + 1) ls
+          → readLines (inOnsets g timing p (h .last)) n′ (b ∷ ls) ≡ readLines (inOnsets g timing (withOnset p (onsetOf timing L)) (four L 1)) (n′ + 1) ls
       unfolding after
-      onward g ls = read-on (inOnsets g d p (h .last)) n′ b ls (sym (stepped g .number) ∙ z)
+      onward g ls = read-on (inOnsets g timing p (h .last)) n′ b ls (sym (stepped g .number) ∙ z)
 
       pub onsets-more : (table′ : PlayingTable)
           → table′ ≡ record {
@@ -108,16 +107,16 @@ module _ {t : List ℕ} {at n bars d : ℕ} {table : PlayingTable} {s : Latest} 
             units = set (table .units) k (r .unit);
             pitches = set (table .pitches) k (getD (l .bytes) 5 0);
           }
-          → OnsetsSoFar t at n bars d table′ (r .latest) (at′ + lineSize (drop at′ t)) (n′ + 1) (k + 1)
+          → OnsetsSoFar t at n bars timing table′ (r .latest) (at′ + lineSize (drop at′ t)) (n′ + 1) (k + 1)
       unfolding onsetOf withOnset
       onsets-more table′ e =
-          let o = onsetOf d L in
+          let o = onsetOf timing L in
           let pitch : getD (l .bytes) 5 0 ≡ o .pitch = ap (λ (x : Line). byte x 5) held-is ∙ byte-held b 5 (omega arith) in
           let unit = stepped noGrammar .unit z in
           record {
             playing = withOnset p o;
             last = four L 1;
-            good = good-onset d p (h .last) L (h .good) met;
+            good = good-onset timing p (h .last) L (h .good) met;
             bars-are = h .bars-are;
             count = ap (λ (x : ℕ). x + 1) (h .count) ∙ sym (length-append (p .onsets) (o ∷ []));
             table-is = e ∙ onset-stored p table o k (r .unit) _ (h .table-is) (h .count) onsets-room (λ j. units (unit j)) pitch;
@@ -126,25 +125,25 @@ module _ {t : List ℕ} {at n bars d : ℕ} {table : PlayingTable} {s : Latest} 
             line = let m = line-size-pos t at′ inside in omega (arith, h .line);
             rest = λ g.
                 h .rest g
-                ∙ ap (readLines (inOnsets g d p (h .last)) n′) (lines-at t at′ inside)
+                ∙ ap (readLines (inOnsets g timing p (h .last)) n′) (lines-at t at′ inside)
                 ∙ onward g _;
           }
 
   -- no line is left
   module _ (past : length t ≤ at′) (g : Grammar) where
-    ended : readLines (inOnsets g d (noPlaying bars) 0) n (lines (drop at t)) ≡ readLines (inOnsets g d p (h .last)) n′ []
-    ended = h .rest g ∙ ap (readLines (inOnsets g d p (h .last)) n′) (lines-end t at′ past)
+    ended : readLines (inOnsets g timing (noPlaying bars) 0) n (lines (drop at t)) ≡ readLines (inOnsets g timing p (h .last)) n′ []
+    ended = h .rest g ∙ ap (readLines (inOnsets g timing p (h .last)) n′) (lines-end t at′ past)
 
     -- before the first onset
-    pub onsets-missing : k ≡ 0 → readLines (inOnsets g d (noPlaying bars) 0) n (lines (drop at t)) ≡ refused 3 n′
-    onsets-missing e = ended ∙ end-without g d p (h .last) n′ (sym (h .count) ∙ e)
+    pub onsets-missing : k ≡ 0 → readLines (inOnsets g timing (noPlaying bars) 0) n (lines (drop at t)) ≡ refused 3 n′
+    onsets-missing e = ended ∙ end-without g timing p (h .last) n′ (sym (h .count) ∙ e)
 
     -- after it
-    pub onsets-done : (k ≡ 0 → ⊥) → readLines (inOnsets g d (noPlaying bars) 0) n (lines (drop at t)) ≡ accepted d
-        (record { grammar = g; playing = p })
-    onsets-done f = ended ∙ end-with g d p (h .last) n′ (λ e. f (h .count ∙ e))
+    pub onsets-done : (k ≡ 0 → ⊥) → readLines (inOnsets g timing (noPlaying bars) 0) n (lines (drop at t)) ≡ accepted
+        (record { sheet = record { grammar = g; playing = p }; timing = timing })
+    onsets-done f = ended ∙ end-with g timing p (h .last) n′ (λ e. f (h .count ∙ e))
 
 -- what is returned where a line is refused, or none is left
-pub onsets-refused : {t : List ℕ} {at n : ℕ} {g : Grammar} {bars d : ℕ} (r : Onsets) → (r .number ≡ 0 → ⊥)
-    → readLines (inOnsets g d (noPlaying bars) 0) n (lines (drop at t)) ≡ refused (r .number) (r .line) → OnsetsRead t at n g bars d r
-onsets-refused r f e = record { stopped = λ _. e; done = λ z. absurd (f z) }
+pub take-refused : {o : Outcome TimedSheet} {g : Grammar} (r : Take) → (r .number ≡ 0 → ⊥) → o ≡ refused (r .number) (r .line)
+    → TakeRead o g r
+take-refused r f e = record { stopped = λ _. e; done = λ z. absurd (f z) }

@@ -1,52 +1,70 @@
 -- What the steps of reading a playing promise.
-use Prim.Native.Nat.{ℕ}
+use Prim.Native.Nat.{ℕ, _≤_}
 use mathlib.Core.Path.{_≡_}
 use mathlib.Core.Bool.{cond}
 use mathlib.Core.List.{List}
 use lib.ListN.{length, drop}
 use lib.Dec.{eqb}
-use Rattle.hextext.specs.Text.{lines}
+use Rattle.hextext.specs.Text.{lines, lineBytes}
 use Rattle.sheet.specs.declared.line.Line.{Line}
-use Rattle.sheet.specs.Sheet.{Grammar, Playing, unitOf, barOf, inBar}
-use Rattle.sheet.specs.Reading.{inOnsets, refusal, readLines, withOnset, onsetOf, four, accepted, refused}
-use Rattle.sheet.specs.Held.{micros, playingTable, noPlaying}
+use Rattle.sheet.specs.declared.table.TimingTable.{TimingTable}
+use Rattle.sheet.specs.Sheet.{Grammar, Playing, Timing, TimedSheet, unitIn, barOf, inBar}
+use Rattle.sheet.specs.Outcome.{Outcome, refused, accepted}
+use Rattle.sheet.specs.Reading.{byte, lineOf, inRules, inOnsets, refusal, readLines, withOnset, onsetOf, four}
+use Rattle.sheet.specs.Held.{micros, timingTable, playingTable, noPlaying}
+use Rattle.sheet.specs.Good.{GoodRules}
 use Rattle.sheet.specs.SoFar.{GoodSoFar}
 use Rattle.playing.specs.declared.Latest.{Latest}
 use Rattle.playing.specs.declared.OnsetStep.{OnsetStep}
-use Rattle.playing.specs.declared.Onsets.{Onsets}
+use Rattle.playing.specs.declared.Take.{Take}
+
+-- the timing that a table holds
+abbrev pub timingIn : TimingTable → Timing
+timingIn t = record { duration = t .duration .0 }
 
 -- how many onsets are in bar b, where `run` are in `bar`, the last that has any
 unfoldable pub runIn : (bar run b : ℕ) → ℕ
 runIn bar run b = cond (eqb b bar) run 0
 
 -- what the next onset is held against, after onsets of which the last is at time `last`
-abbrev pub latestOf : (duration : ℕ) → Playing → (last : ℕ) → Latest
-latestOf duration p last =
+abbrev pub latestOf : Timing → Playing → (last : ℕ) → Latest
+latestOf timing p last =
     record {
       time = micros last;
-      bar = barOf (unitOf duration last);
-      run = inBar (barOf (unitOf duration last)) (p .onsets);
+      bar = barOf (unitIn timing last);
+      run = inBar (barOf (unitIn timing last)) (p .onsets);
     }
 
 -- an onset line: its refusal; and where there is none its unit, and what the next onset is held against
-pub record OnsetStepped (g : Grammar) (d : ℕ) (p : Playing) (last : ℕ) (l : Line) (r : OnsetStep) : Type 0 where
-  pub number : r .number ≡ refusal (inOnsets g d p last) l
-  pub unit : r .number ≡ 0 → r .unit .0 ≡ unitOf d (four l 1)
-  pub latest : r .number ≡ 0 → r .latest ≡ latestOf d (withOnset p (onsetOf d l)) (four l 1)
+pub record OnsetStepped (g : Grammar) (timing : Timing) (p : Playing) (last : ℕ) (l : Line) (r : OnsetStep) : Type 0 where
+  pub number : r .number ≡ refusal (inOnsets g timing p last) l
+  pub unit : r .number ≡ 0 → r .unit .0 ≡ unitIn timing (four l 1)
+  pub latest : r .number ≡ 0 → r .latest ≡ latestOf timing (withOnset p (onsetOf timing l)) (four l 1)
 
 -- the same of any good playing whose numbers are those handed over
-abbrev pub OnsetStepOf : (bars d count : ℕ) → Latest → Line → OnsetStep → Type 0
-OnsetStepOf bars d count s l r =
-    (g : Grammar) (p : Playing) (last : ℕ) → GoodSoFar d p last → bars ≡ p .bars → count ≡ length (p .onsets) → s ≡ latestOf d p last
-    → OnsetStepped g d p last l r
+abbrev pub OnsetStepOf : (bars : ℕ) → Timing → (count : ℕ) → Latest → Line → OnsetStep → Type 0
+OnsetStepOf bars timing count s l r =
+    (g : Grammar) (p : Playing) (last : ℕ) → GoodSoFar timing p last → bars ≡ p .bars → count ≡ length (p .onsets)
+    → s ≡ latestOf timing p last → OnsetStepped g timing p last l r
 
--- the onsets are read, up to the end of the text: the outcome is a sheet
-pub record OnsetsDone (t : List ℕ) (at n : ℕ) (g : Grammar) (bars d : ℕ) (r : Onsets) : Type 0 where
+-- a playing and its timing as they were read behind the grammar g: what the text comes to
+pub record TakeDone (o : Outcome TimedSheet) (g : Grammar) (r : Take) : Type 0 where
   pub playing : Playing
+  pub timing : Timing
   pub table : r .playing ≡ playingTable playing
-  pub sheet : readLines (inOnsets g d (noPlaying bars) 0) n (lines (drop at t)) ≡ accepted d (record { grammar = g; playing = playing })
+  pub timing-table : r .timing ≡ timingTable timing
+  pub sheet : o ≡ accepted (record { sheet = record { grammar = g; playing = playing }; timing = timing })
 
--- reading the onsets from line n, at place `at`, on
-pub record OnsetsRead (t : List ℕ) (at n : ℕ) (g : Grammar) (bars d : ℕ) (r : Onsets) : Type 0 where
-  pub stopped : (r .number ≡ 0 → ⊥) → readLines (inOnsets g d (noPlaying bars) 0) n (lines (drop at t)) ≡ refused (r .number) (r .line)
-  pub done : r .number ≡ 0 → OnsetsDone t at n g bars d r
+pub record TakeRead (o : Outcome TimedSheet) (g : Grammar) (r : Take) : Type 0 where
+  pub stopped : (r .number ≡ 0 → ⊥) → o ≡ refused (r .number) (r .line)
+  pub done : r .number ≡ 0 → TakeDone o g r
+
+-- reading the onsets from line n, at place `at`, on, behind a `45` line
+abbrev pub OnsetsRead : (t : List ℕ) (at n : ℕ) → Grammar → (bars : ℕ) → Timing → Take → Type 0
+OnsetsRead t at n g bars timing r = TakeRead (readLines (inOnsets g timing (noPlaying bars) 0) n (lines (drop at t))) g r
+
+-- reading the playing from line n, at place `at`, on, which is a `45` line behind a grammar with a rule
+abbrev pub PlayingRead : (t : List ℕ) (at n : ℕ) → Grammar → Take → Type 0
+PlayingRead t at n g r =
+    GoodRules g → 1 ≤ length (g .rules) → byte (lineOf (lineBytes (drop at t))) 0 ≡ 0x45
+    → TakeRead (readLines (inRules g) n (lines (drop at t))) g r

@@ -1,15 +1,16 @@
-// The playing of a sheet: the `4E` lines after the `45` line.
+// The playing of a sheet: the `45` line, and the `4E` lines behind it.
 ghost use mathlib.Core.Path.{_≡_};
 ghost use Prim.Native.Nat.{_+_, _*_, _≤_, _<_};
 ghost use lib.ListN.{length};
 ghost use Rattle.sheet.specs.Sheet.{Grammar};
-ghost use Rattle.sheet.specs.Reading.{onsetRefusal};
+ghost use Rattle.sheet.specs.Reading.{playingRefusal, onsetForm, momentRefusal, roomRefusal};
 ghost use Rattle.sheet.specs.Held.{playingTable, noPlaying};
 ghost use Rattle.sheet.specs.SoFar.{GoodSoFar};
-ghost use Rattle.playing.specs.Steps.{runIn, OnsetStepOf, OnsetsRead};
+ghost use Rattle.playing.specs.Steps.{timingIn, runIn, OnsetStepOf, OnsetsRead, PlayingRead};
 use sheet::Line;
 use sheet::Micros;
 use sheet::PlayingTable;
+use sheet::TimingTable;
 use sheet::Units;
 use sheet::four_at;
 use sheet::line_at;
@@ -29,10 +30,11 @@ pub struct OnsetStep {
     pub latest: Latest,
 }
 
-// What reading the onsets gives: a refusal with its line; or, with number 0, the playing.
-pub struct Onsets {
+// What reading the playing gives: a refusal with its line; or, with number 0, the timing and the playing.
+pub struct Take {
     pub number: u8,
     pub line: usize,
+    pub timing: TimingTable,
     pub playing: PlayingTable,
 }
 
@@ -50,9 +52,33 @@ pub fn no_onsets(bars: u8) -> PlayingTable
     }
 }
 
-// The refusal of a `4E` line by all but the number of onsets in its bar; 0: none.
-fn time_refusal(bars: u8, duration: Micros, last: Micros, count: usize, l: Line) -> u8
-    ensures { λ r. ⌜ r ≡ onsetRefusal bars (duration .0) (last .0) count 0 l ⌝ }
+// The refusal of a `45` line; 0: none.
+fn playing_refusal(l: Line) -> u8
+    ensures { λ r. ⌜ r ≡ playingRefusal l ⌝ }
+{
+    if l.count != 6 {
+        return 4;
+    }
+    let bars = l.bytes[1];
+    if bars < 1 {
+        return 5;
+    }
+    if 64 < bars {
+        return 5;
+    }
+    let d = four_at(l, 2);
+    if d < 1000 {
+        return 5;
+    }
+    if 60000000 < d {
+        return 5;
+    }
+    0
+}
+
+// The refusal of a `4E` line by its form; 0: none.
+fn form_refusal(l: Line) -> u8
+    ensures { λ r. ⌜ r ≡ onsetForm l ⌝ }
 {
     if l.count != 7 {
         return 4;
@@ -68,16 +94,33 @@ fn time_refusal(bars: u8, duration: Micros, last: Micros, count: usize, l: Line)
     if 127 < velocity {
         return 5;
     }
-    let t = four_at(l, 1);
+    0
+}
+
+// The refusal of a moment, after the last one and before the end; 0: none.
+fn moment_refusal(bars: u8, timing: TimingTable, last: Micros, moment: Micros) -> u8
+    ensures { λ r. ⌜ r ≡ momentRefusal bars (timingIn timing) (last .0) (moment .0) ⌝ }
+{
+    let t = moment.0;
     let before = last.0;
     if t < before {
         return 6;
     }
-    let end = (bars as u64) * (duration.0 as u64);
+    let end = (bars as u64) * (timing.duration.0 as u64);
     if end <= t as u64 {
         return 7;
     }
+    0
+}
+
+// The refusal of one onset more after `count`, of which `here` are in its bar; 0: none.
+fn room_refusal(count: usize, here: usize) -> u8
+    ensures { λ r. ⌜ r ≡ roomRefusal count here ⌝ }
+{
     if 512 <= count {
+        return 8;
+    }
+    if 32 <= here {
         return 8;
     }
     0
@@ -102,24 +145,28 @@ fn refused_step(number: u8, latest: Latest) -> OnsetStep
 }
 
 // A line after the `45` line and `count` onsets.
-fn onset_step(bars: u8, duration: Micros, count: usize, latest: Latest, l: Line) -> OnsetStep
+fn onset_step(bars: u8, timing: TimingTable, count: usize, latest: Latest, l: Line) -> OnsetStep
     requires { ⌜ bars ≤ 64 ⌝ }
-    ensures { λ r. ⌜ OnsetStepOf bars (duration .0) count latest l r ⌝ }
+    ensures { λ r. ⌜ OnsetStepOf bars (timingIn timing) count latest l r ⌝ }
 {
     if l.bytes[0] != 0x4E {
         return refused_step(3, latest);
     }
-    let last = latest.time;
-    let number = time_refusal(bars, duration, last, count, l);
-    if number != 0 {
-        return refused_step(number, latest);
+    let form = form_refusal(l);
+    if form != 0 {
+        return refused_step(form, latest);
     }
     let t = Micros(four_at(l, 1));
-    let unit = unit_of(t, duration);
+    let moment = moment_refusal(bars, timing, latest.time, t);
+    if moment != 0 {
+        return refused_step(moment, latest);
+    }
+    let unit = unit_of(t, timing.duration);
     let bar = unit.0 / 20160;
     let here = run_in(latest.bar, latest.run, bar);
-    if 32 <= here {
-        return refused_step(8, latest);
+    let room = room_refusal(count, here);
+    if room != 0 {
+        return refused_step(room, latest);
     }
     OnsetStep {
         number: 0,
@@ -133,9 +180,9 @@ fn onset_step(bars: u8, duration: Micros, count: usize, latest: Latest, l: Line)
 }
 
 // The lines after the `45` line, from place `at` on, where line `line` starts: up to the end of the text.
-pub fn read_onsets(text: &[u8], at: usize, line: usize, bars: u8, duration: Micros) -> Onsets
-    requires { ⌜ (at ≤ length (now text)) × (line ≤ at + 1) × GoodSoFar (duration .0) (noPlaying bars) 0 ⌝ }
-    ensures { λ r. ⌜ ((g : Grammar) → OnsetsRead (now (text .entry)) at line g bars (duration .0) r) ⌝ }
+fn read_onsets(text: &[u8], at: usize, line: usize, bars: u8, timing: TimingTable) -> Take
+    requires { ⌜ (at ≤ length (now text)) × (line ≤ at + 1) × GoodSoFar (timingIn timing) (noPlaying bars) 0 ⌝ }
+    ensures { λ r. ⌜ ((g : Grammar) → OnsetsRead (now (text .entry)) at line g bars (timingIn timing) r) ⌝ }
 {
     let mut playing = no_onsets(bars);
     let mut latest = Latest {
@@ -149,12 +196,13 @@ pub fn read_onsets(text: &[u8], at: usize, line: usize, bars: u8, duration: Micr
     while at < text.len() {
         let taken = line_at(text, at);
         let l = taken.line;
-        let step = onset_step(bars, duration, n, latest, l);
+        let step = onset_step(bars, timing, n, latest, l);
         let number = step.number;
         if number != 0 {
-            return Onsets {
+            return Take {
                 number,
                 line,
+                timing,
                 playing,
             };
         }
@@ -169,15 +217,39 @@ pub fn read_onsets(text: &[u8], at: usize, line: usize, bars: u8, duration: Micr
         line += 1;
     }
     if n == 0 {
-        return Onsets {
+        return Take {
             number: 3,
             line,
+            timing,
             playing,
         };
     }
-    Onsets {
+    Take {
         number: 0,
         line: 0,
+        timing,
         playing,
     }
+}
+
+// The `45` line, line `line` at place `at`, and the lines after it, up to the end of the text.
+pub fn read_playing(text: &[u8], at: usize, line: usize) -> Take
+    requires { ⌜ (at < length (now text)) × (line ≤ at + 1) ⌝ }
+    ensures { λ r. ⌜ ((g : Grammar) → PlayingRead (now (text .entry)) at line g r) ⌝ }
+{
+    let taken = line_at(text, at);
+    let l = taken.line;
+    let timing = TimingTable {
+        duration: Micros(four_at(l, 2)),
+    };
+    let number = playing_refusal(l);
+    if number != 0 {
+        return Take {
+            number,
+            line,
+            timing,
+            playing: no_onsets(0),
+        };
+    }
+    read_onsets(text, taken.next, line + 1, l.bytes[1], timing)
 }

@@ -87,7 +87,7 @@ module _ {s : Sheet} {g : GrammarTable} {p : PlayingTable} (h : SheetHeld s g p)
 
   -- no tree has more nodes than B + 80 × N
   pub too-long : (list : List ℕ) → p .bars + 80 * p .count < length list → priceSheet s list ≡ noTree
-  too-long list k = none-refused s list (λ v. omega (arith, node-count s (h .duration) (h .good) list v, bars-are, count-is))
+  too-long list k = none-refused s list (λ v. omega (arith, node-count s (h .good) list v, bars-are, count-is))
 
   -- the nonterminals of the bars
   starts : (kids : List ℕ) → kids ≡ take (p .bars) (replicate 64 (g .start)) → kids ≡ replicate (s .playing .bars) (s .grammar .start)

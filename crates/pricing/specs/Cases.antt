@@ -4,15 +4,16 @@ use mathlib.Core.Path.{_≡_, refl, sym, ap, _∙_}
 use mathlib.Core.List.{List, [], _∷_}
 use mathlib.Core.Option.{Option·elim}
 use native.Mathlib.Omega.{arith}
+use Rattle.sheet.specs.Outcome.{refused}
 use Rattle.sheet.specs.Reading.{readSheet}
 use Rattle.sheet.specs.Cases.{S}
 use Rattle.derivations.specs.Derivation.{onto}
 use Rattle.trees.specs.ValidTrees.{whose, distanceTo}
 use Rattle.pricing.specs.declared.Priced.{Priced}
-use Rattle.pricing.specs.Pricing.{refusal, priced, priceSheet, priceText, pricedOf}
+use Rattle.pricing.specs.Pricing.{priced, priceSheet, priceText, pricedOf}
 
 -- "S with `00`": refusal 12
-pub S-refuses-00 : priceText S (0 ∷ []) ≡ refusal 12 0
+pub S-refuses-00 : priceText S (0 ∷ []) ≡ refused 12 0
 unfolding priceText priceSheet readSheet whose distanceTo onto Option·elim
 S-refuses-00 = refl
 

@@ -2,7 +2,6 @@
 -- none. Nothing is asked of the sheet.
 use Prim.Native.Nat.{ℕ}
 use mathlib.Core.Path.{_≡_, refl, sym, ap, _∙_}
-use mathlib.Core.Bool.{true, false, false≢true}
 use mathlib.Core.List.{List}
 use mathlib.Core.Logic.{_⊎_, inl, inr}
 use mathlib.Core.Option.{Option, none, some}
@@ -15,10 +14,8 @@ use Rattle.trees.specs.ValidTrees.{bars, ValidTree, Priced, totalOf}
 use Rattle.trees.specs.Instance.{instanceOf, Derived}
 use Rattle.trees.specs.Equivalence.{valid-derived, derived-valid}
 use Rattle.trees.specs.Found.{own-price}
-use Rattle.pricing.specs.Pricing.{refusal, priced, noTree, priceSheet}
-
-priced≢noTree : (n R D t : ℕ) → priced n R D t ≡ noTree → ⊥
-priced≢noTree n R D t e = let f : false ≡ true = cc in false≢true f
+use Rattle.sheet.specs.Outcome.{accepted-not-refused, accepted-value}
+use Rattle.pricing.specs.Pricing.{Figures, priced, noTree, priceSheet}
 
 module _ (s : Sheet) (bs : List ℕ) where
   -- ---- by how the list is derived
@@ -61,7 +58,7 @@ module _ (s : Sheet) (bs : List ℕ) where
 
   -- and nothing else is
   pub refused-none : priceSheet s bs ≡ noTree → ValidTree s bs → ⊥
-  refused-none e v = let (R, D, p) = own-price s bs v in priced≢noTree _ _ _ _ (sym (tree-priced R D p) ∙ e)
+  refused-none e v = let (R, D, p) = own-price s bs v in accepted-not-refused (sym (tree-priced R D p) ∙ e)
 
   -- what is priced is a valid tree, and the price is its own
   pub price-own : (n R D t : ℕ) → priceSheet s bs ≡ priced n R D t → Priced s bs R D × (n ≡ length bs) × (t ≡ totalOf s R D)
@@ -70,9 +67,10 @@ module _ (s : Sheet) (bs : List ℕ) where
       go : ((R : ℕ) × (D : ℕ) × Priced s bs R D) ⊎ (priceSheet s bs ≡ noTree) → Priced s bs R D × (n ≡ length bs) × (t ≡ totalOf s R D)
       go (inl (R₂, D₂, p)) =
           let f : priced (length bs) R₂ D₂ (totalOf s R₂ D₂) ≡ priced n R D t = sym (tree-priced R₂ D₂ p) ∙ e in
-          let r : R₂ ≡ R = cc f in
-          let d : D₂ ≡ D = cc f in
-          let m : length bs ≡ n = cc f in
-          let u : totalOf s R₂ D₂ ≡ t = cc f in
+          let same = accepted-value f in
+          let r : R₂ ≡ R = ap (λ (x : Figures). x .weight) same in
+          let d : D₂ ≡ D = ap (λ (x : Figures). x .distance) same in
+          let m : length bs ≡ n = ap (λ (x : Figures). x .nodes) same in
+          let u : totalOf s R₂ D₂ ≡ t = ap (λ (x : Figures). x .total) same in
           (rw (← r, ← d) p, sym m, rw (← r, ← d) (sym u))
-      go (inr h) = absurd (priced≢noTree _ _ _ _ (sym e ∙ h))
+      go (inr h) = absurd (accepted-not-refused (sym e ∙ h))

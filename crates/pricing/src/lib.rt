@@ -5,7 +5,8 @@ ghost use Prim.Native.Nat.{ℕ};
 ghost use lib.ListN.{length};
 ghost use Rattle.sheet.specs.Sheet.{Sheet};
 ghost use Rattle.sheet.specs.Accepted.{SheetHeld};
-ghost use Rattle.pricing.specs.Pricing.{refusal, priceText, priceSheet, pricedOf};
+ghost use Rattle.sheet.specs.Outcome as outcome;
+ghost use Rattle.pricing.specs.Pricing.{priceText, priceSheet, pricedOf};
 ghost use Rattle.pricing.specs.Steps.{Room, progressBehind, ItemEntry, ItemWalked, RowEntry, RowWalked, BarsWalked};
 use expansions::Expansion;
 use expansions::Interval;
@@ -142,7 +143,7 @@ fn read_row<'a>(
 
 // A refusal's answer: its number and its line, and zeros elsewhere.
 pub fn refused(number: u8, line: usize) -> Priced
-    ensures { λ r. ⌜ r ≡ pricedOf (refusal number line) ⌝ }
+    ensures { λ r. ⌜ r ≡ pricedOf (outcome.refused number line) ⌝ }
 {
     Priced {
         number,

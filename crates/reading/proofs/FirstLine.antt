@@ -8,7 +8,8 @@ use borrow.Author.Tests.{eq-eqb, ne-eqb}
 use Rattle.hextext.specs.Text.{lines, lineBytes, lineSize}
 use Rattle.hextext.specs.Laws.{lines-at, byte-small}
 use Rattle.sheet.specs.declared.line.Line.{Line}
-use Rattle.sheet.specs.Reading.{byte, lineOf, headRefusal, headOf, nothing, inRules, refusal, after, readLines, refused}
+use Rattle.sheet.specs.Outcome.{refused}
+use Rattle.sheet.specs.Reading.{byte, lineOf, headRefusal, headOf, nothing, inRules, refusal, after, readLines}
 use Rattle.sheet.specs.Held.{held}
 use Rattle.sheet.specs.Good.{GoodRules}
 use Rattle.sheet.specs.SoFar.{GoodProgress}

@@ -3,16 +3,18 @@ ghost use mathlib.Core.Path.{_≡_};
 ghost use Prim.Native.Nat.{_<_};
 ghost use lib.ListN.{length};
 ghost use Rattle.hextext.specs.Text.{lines};
-ghost use Rattle.sheet.specs.Reading.{readSheet, readLines, refused, nothing};
+ghost use Rattle.sheet.specs.Outcome.{refused};
+ghost use Rattle.sheet.specs.Reading.{readSheet, readLines, nothing};
 ghost use Rattle.sheet.specs.Held.{readingOf};
 use grammar::head_of;
 use grammar::head_refusal;
 use grammar::no_grammar;
 use grammar::read_rules;
 use playing::no_onsets;
-use playing::read_onsets;
+use playing::read_playing;
 use sheet::Micros;
 use sheet::Reading;
+use sheet::TimingTable;
 use sheet::line_at;
 
 fn refused_at(number: u8, line: usize) -> Reading
@@ -23,7 +25,9 @@ fn refused_at(number: u8, line: usize) -> Reading
     Reading {
         number,
         line,
-        duration: Micros(0),
+        timing: TimingTable {
+            duration: Micros(0),
+        },
         grammar,
         playing,
     }
@@ -48,18 +52,18 @@ fn read_lines(text: &[u8]) -> Reading
     if stop != 0 {
         return refused_at(stop, rules.line);
     }
-    let duration = rules.duration;
-    let onsets = read_onsets(text, rules.next, rules.line, rules.bars, duration);
-    let last = onsets.number;
+    let take = read_playing(text, rules.next, rules.line);
+    let last = take.number;
     if last != 0 {
-        return refused_at(last, onsets.line);
+        return refused_at(last, take.line);
     }
     let grammar = rules.grammar;
-    let playing = onsets.playing;
+    let timing = take.timing;
+    let playing = take.playing;
     Reading {
         number: 0,
         line: 0,
-        duration,
+        timing,
         grammar,
         playing,
     }

@@ -94,7 +94,7 @@ module _ {s : Sheet} {g : GrammarTable} {p : PlayingTable} {list : List ℕ} {r 
   -- the counts are small
   pub few-leaves : (leaves ≤ 41024) × (p .count ≤ 512)
   few-leaves = (
-    omega (arith, leaves-are, leaf-rules-most s list, nodes-most s (h .duration) (h .good) list (t .valid)),
+    omega (arith, leaves-are, leaf-rules-most s list, nodes-most s (h .good) list (t .valid)),
     omega (arith, onsets-are, h .good .onsets .most),
   )
 

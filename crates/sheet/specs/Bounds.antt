@@ -10,26 +10,28 @@ use lib.ListN.{length}
 use lib.Dec.{ltb}
 use Rattle.hextext.specs.Text.{badLine, lines}
 use Rattle.hextext.specs.Laws.{bad-line-most, lines-most}
-use Rattle.sheet.specs.Reading.{lineOf, Progress, nothing, inRules, inOnsets, refusal, after, Outcome, refused, accepted, atEnd}
+use Rattle.sheet.specs.Sheet.{TimedSheet}
+use Rattle.sheet.specs.Outcome.{Outcome, refused, accepted}
+use Rattle.sheet.specs.Reading.{lineOf, Progress, nothing, inRules, inOnsets, refusal, after, atEnd}
 use Rattle.sheet.specs.Reading.{readLines, readSheet}
 use Rattle.sheet.specs.Laws.{read-on, read-stop, too-long, ill-formed, well-formed}
 
 -- a refusal's number is 1 or more, and its line at most m
-abbrev Within : ℕ → Outcome → Type 0
+abbrev Within : ℕ → Outcome TimedSheet → Type 0
 Within m (refused k n) = (1 ≤ k) × (n ≤ m)
-Within m (accepted d s) = Unit {0}
+Within m (accepted x) = Unit {0}
 
-within-weaken : (m m′ : ℕ) → m ≤ m′ → (o : Outcome) → Within m o → Within m′ o
+within-weaken : (m m′ : ℕ) → m ≤ m′ → (o : Outcome TimedSheet) → Within m o → Within m′ o
 within-weaken m m′ h (refused k n) w = (w .0, le-trans (w .1) h)
-within-weaken m m′ h (accepted d s) w = tt
+within-weaken m m′ h (accepted x) w = tt
 
 end-within : (r : Progress) (n : ℕ) → Within n (atEnd r n)
 unfolding atEnd
 end-within nothing n = (omega arith, omega arith)
 end-within (inRules g) n = (omega arith, omega arith)
-end-within (inOnsets g d p last) n = go (ltb 0 (length (p .onsets)))
+end-within (inOnsets g timing p last) n = go (ltb 0 (length (p .onsets)))
   where
-    go : (t : Bool) → Within n (cond t (accepted d (record { grammar = g; playing = p })) (refused 3 n))
+    go : (t : Bool) → Within n (cond t (accepted (record { sheet = record { grammar = g; playing = p }; timing = timing })) (refused 3 n))
     go true = tt
     go false = (omega arith, omega arith)
 

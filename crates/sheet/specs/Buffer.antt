@@ -9,10 +9,11 @@ use lib.Dec.{eqb, leb, ltb}
 use borrow.Author.Tests.{leb-true}
 use Rattle.slices.specs.Pad.{getD-pad}
 use Rattle.sheet.specs.declared.line.Line.{Line}
-use Rattle.sheet.specs.Sheet.{unitOf, barOf, inBar}
+use Rattle.sheet.specs.Sheet.{Playing, Timing, unitIn, barOf, inBar}
 use Rattle.sheet.specs.Reading.{byte, two, four, allBelow, bytesFrom, lineOf, headRefusal, headOf, divisionRefusal, divisionOf}
-use Rattle.sheet.specs.Reading.{leafRefusal, leafOf, withRule, playingRefusal, playingOf, onsetRefusal, onsetOf}
-use Rattle.sheet.specs.Reading.{demand, Progress, nothing, inRules, inOnsets, rulesRefusal, refusal, after}
+use Rattle.sheet.specs.Reading.{leafRefusal, leafOf, ruleRefusal, ruleOf, withRule, playingRefusal, playingOf, timingOf, onsetForm}
+use Rattle.sheet.specs.Reading.{momentRefusal, onsetRefusal, onsetOf, demand, first, Progress, nothing, inRules, inOnsets}
+use Rattle.sheet.specs.Reading.{rulesRefusal, refusal, after}
 use Rattle.sheet.specs.Held.{held}
 use Rattle.sheet.specs.Laws.{division-passed}
 
@@ -100,50 +101,50 @@ module _ (b : List ℕ) where
   unfolding playingOf
   playing-of-held = rw (byte-held 1 (omega arith))
 
-  onset-held : (B d last n x : ℕ) → onsetRefusal B d last n x h ≡ onsetRefusal B d last n x l
-  unfolding onsetRefusal
-  onset-held B d last n x = rw (four-held 1 (omega arith), count-held, byte-held 5 (omega arith), byte-held 6 (omega arith))
+  timing-of-held : timingOf h ≡ timingOf l
+  unfolding timingOf
+  timing-of-held = rw (four-held 2 (omega arith))
 
-  pub onset-of-held : (d : ℕ) → onsetOf d h ≡ onsetOf d l
+  -- a rule's line
+  rule-held : (q n : ℕ) → ruleRefusal q n h ≡ ruleRefusal q n l
+  unfolding ruleRefusal
+  rule-held q n = rw (byte-held 0 (omega arith), division-held q n, leaf-held q n)
+
+  rule-of-held : (q n : ℕ) → ruleRefusal q n l ≡ 0 → ruleOf h ≡ ruleOf l
+  unfolding ruleRefusal ruleOf
+  rule-of-held q n z = rw (byte-held 0 (omega arith), leaf-of-held) (go (eqb (byte l 0) 0x44) z)
+    where
+      go : (t : Bool) → cond t (divisionRefusal q n l) (cond (eqb (byte l 0) 0x4C) (leafRefusal q n l) 3) ≡ 0
+          → cond t (divisionOf h) (leafOf l) ≡ cond t (divisionOf l) (leafOf l)
+      go true z = division-of-held (division-passed q n l z .most)
+      go false z = refl
+
+  form-held : onsetForm h ≡ onsetForm l
+  unfolding onsetForm
+  form-held = rw (count-held, byte-held 5 (omega arith), byte-held 6 (omega arith))
+
+  onset-held : (timing : Timing) (p : Playing) (last : ℕ) → onsetRefusal timing p last h ≡ onsetRefusal timing p last l
+  unfolding onsetRefusal
+  onset-held timing p last = rw (form-held, four-held 1 (omega arith))
+
+  pub onset-of-held : (timing : Timing) → onsetOf timing h ≡ onsetOf timing l
   unfolding onsetOf
-  onset-of-held d = rw (byte-held 5 (omega arith), four-held 1 (omega arith))
+  onset-of-held timing = rw (byte-held 5 (omega arith), four-held 1 (omega arith))
 
   pub refusal-held : (r : Progress) → refusal r h ≡ refusal r l
   unfolding refusal rulesRefusal
   refusal-held nothing = rw (byte-held 0 (omega arith), head-held)
-  refusal-held (inRules g) =
-      rw (
-        byte-held 0 (omega arith),
-        division-held (g .nonterminals) (length (g .rules)),
-        leaf-held (g .nonterminals)
-            (length (g .rules)),
-        playing-held,
-      )
-  refusal-held (inOnsets g d p last) =
-      rw (
-        byte-held 0 (omega arith),
-        four-held 1 (omega arith),
-        onset-held (p .bars) d last (length (p .onsets))
-            (inBar (barOf (unitOf d (four l 1))) (p .onsets)),
-      )
+  refusal-held (inRules g) = rw (byte-held 0 (omega arith), rule-held (g .nonterminals) (length (g .rules)), playing-held)
+  refusal-held (inOnsets g timing p last) = rw (byte-held 0 (omega arith), onset-held timing p last)
 
   pub after-held : (r : Progress) → refusal r l ≡ 0 → after r h ≡ after r l
   unfolding after refusal rulesRefusal
   after-held nothing e = ap inRules head-of-held
-  after-held (inRules g) e =
-      rw (byte-held 0 (omega arith), leaf-of-held, four-held 2 (omega arith), playing-of-held) (go (eqb (byte l 0) 0x44) e)
+  after-held (inRules g) e = rw (byte-held 0 (omega arith), timing-of-held, playing-of-held) (go (eqb (byte l 0) 0x45) e)
     where
-      other : Progress
-      other = cond (eqb (byte l 0) 0x4C) (inRules (withRule g (leafOf l))) (inOnsets g (four l 2) (playingOf l) 0)
-
-      go : (t : Bool)
-          → cond t (divisionRefusal (g .nonterminals) (length (g .rules)) l)
-          (cond (eqb (byte l 0) 0x4C) (leafRefusal (g .nonterminals) (length (g .rules)) l)
-          (cond (eqb (byte l 0) 0x45) (demand (ltb 0 (length (g .rules))) 3 (playingRefusal l)) 3)) ≡ 0
-          → cond t (inRules (withRule g (divisionOf h))) (cond (eqb (byte l 0) 0x4C) (inRules (withRule g (leafOf l)))
-          (inOnsets g (four l 2) (playingOf l) 0))
-          ≡ cond t (inRules (withRule g (divisionOf l))) (cond (eqb (byte l 0) 0x4C) (inRules (withRule g (leafOf l)))
-          (inOnsets g (four l 2) (playingOf l) 0))
-      go true z = rw (division-of-held (division-passed (g .nonterminals) (length (g .rules)) l z .most))
-      go false z = refl
-  after-held (inOnsets g d p last) e = rw (onset-of-held d, four-held 1 (omega arith))
+      go : (t : Bool) → cond t (demand (ltb 0 (length (g .rules))) 3 (playingRefusal l)) (ruleRefusal (g .nonterminals) (length (g .rules)) l) ≡ 0
+          → cond t (inOnsets g (timingOf l) (playingOf l) 0) (inRules (withRule g (ruleOf h)))
+          ≡ cond t (inOnsets g (timingOf l) (playingOf l) 0) (inRules (withRule g (ruleOf l)))
+      go true z = refl
+      go false z = ap (λ r. inRules (withRule g r)) (rule-of-held _ _ z)
+  after-held (inOnsets g timing p last) e = rw (onset-of-held timing, four-held 1 (omega arith))

@@ -6,7 +6,8 @@ use mathlib.Core.List.{List, [], _∷_, _++_, map}
 use lib.ListN.{replicate}
 use Rattle.sheet.specs.Literal.{textOf, times}
 use Rattle.sheet.specs.Sheet.{division, leaf, Sheet}
-use Rattle.sheet.specs.Reading.{refused, accepted, readSheet}
+use Rattle.sheet.specs.Outcome.{refused, accepted}
+use Rattle.sheet.specs.Reading.{readSheet}
 
 -- S in three parts: the grammar (lines 1 to 5), the `45` line (6) and two onsets (7 and 8)
 abbrev pub grammarS : List ℕ
@@ -34,7 +35,7 @@ sheetS =
       };
     }
 
-pub S-means : readSheet S ≡ accepted 2_000_000 sheetS
+pub S-means : readSheet S ≡ accepted (record { sheet = sheetS; timing = record { duration = 2_000_000 } })
 unfolding readSheet
 S-means = refl
 

@@ -1,9 +1,10 @@
--- What layers above reading may rely on: `Good`, which `GoodLaws.good` proves of every accepted text.
+-- What layers above reading may rely on: `Good`, which `GoodLaws.good` proves of every accepted text. It speaks of the sheet alone; what
+-- holds of its real time is `GoodTiming`.
 use Prim.Native.Nat.{ℕ, _*_, _≤_, _<_}
 use mathlib.Core.List.{List, [], _∷_}
 use lib.ListN.{length}
 use Rattle.slices.specs.Every.{Every}
-use Rattle.sheet.specs.Sheet.{Rule, division, leaf, Onset, Grammar, Playing, Sheet, barUnits, inBar}
+use Rattle.sheet.specs.Sheet.{Rule, division, leaf, Onset, Grammar, Playing, Sheet, Timing, barUnits, inBar}
 
 -- units never fall: each is at least the one before, the first at least `least`
 abbrev pub Rising : (least : ℕ) → List Onset → Type 0
@@ -47,10 +48,13 @@ pub record GoodOnsets (p : Playing) : Type 0 where
   pub rising : Rising 0 (p .onsets)
   pub few : (b : ℕ) → inBar b (p .onsets) ≤ 32
 
--- an accepted sheet, and one bar's duration in it
-pub record Good (duration : ℕ) (s : Sheet) : Type 0 where
-  pub shortest : 1000 ≤ duration
-  pub longest : duration ≤ 60_000_000
+-- one bar's duration
+pub record GoodTiming (timing : Timing) : Type 0 where
+  pub shortest : 1000 ≤ timing .duration
+  pub longest : timing .duration ≤ 60_000_000
+
+-- an accepted sheet
+pub record Good (s : Sheet) : Type 0 where
   pub rules : GoodRules (s .grammar)
   pub some-rule : 1 ≤ length (s .grammar .rules)
   pub onsets : GoodOnsets (s .playing)

@@ -14,13 +14,14 @@ use Rattle.slices.specs.Every.{Every, every-more, every-at, every-weaken}
 use Rattle.hextext.specs.Text.{lines, badLine}
 use Rattle.hextext.specs.Laws.{lines-small}
 use Rattle.sheet.specs.declared.line.Line.{Line}
-use Rattle.sheet.specs.Sheet.{Rule, Onset, Grammar, Playing, Sheet, unitOf, barOf, inBar, barUnits}
+use Rattle.sheet.specs.Sheet.{Rule, Onset, Grammar, Playing, Timing, TimedSheet, unitIn, barOf, inBar, barUnits}
+use Rattle.sheet.specs.Outcome.{Outcome, refused, accepted}
 use Rattle.sheet.specs.Reading.{byte, two, four, allBelow, bytesFrom, lineOf, headRefusal, headOf, divisionRefusal, divisionOf}
-use Rattle.sheet.specs.Reading.{leafRefusal, leafOf, withRule, playingRefusal, playingOf, onsetRefusal, onsetOf, withOnset}
-use Rattle.sheet.specs.Reading.{Progress, nothing, inRules, inOnsets, rulesRefusal, refusal, after, Outcome, refused, accepted}
+use Rattle.sheet.specs.Reading.{leafRefusal, leafOf, ruleRefusal, ruleOf, withRule, playingRefusal, playingOf, timingOf}
+use Rattle.sheet.specs.Reading.{onsetRefusal, onsetOf, withOnset, Progress, nothing, inRules, inOnsets, rulesRefusal, refusal, after}
 use Rattle.sheet.specs.Reading.{demand, atEnd, readLines, readSheet}
 use Rattle.sheet.specs.Clock.{unit-lt, unit-mono}
-use Rattle.sheet.specs.Good.{Rising, GoodRule, GoodRules, Good}
+use Rattle.sheet.specs.Good.{Rising, GoodRule, GoodRules, GoodTiming, Good}
 use Rattle.sheet.specs.SoFar.{GoodSoFar, GoodProgress}
 use Rattle.sheet.specs.Laws.{length-bytes, demand-zero, cond-zero, head-passed, division-passed, leaf-passed, playing-passed}
 use Rattle.sheet.specs.Laws.{onset-passed, read-on, read-stop, too-long, ill-formed, well-formed}
@@ -90,13 +91,12 @@ good-leaf : (q n : ℕ) (l : Line) → Small l → leafRefusal q n l ≡ 0 → G
 unfolding leafOf
 good-leaf q n l h e = let p = leaf-passed q n l e in record { head = p .head; weight = two-small l 2 h; three = p .three }
 
-good-start : (l : Line) → playingRefusal l ≡ 0 → GoodSoFar (four l 2) (playingOf l) 0
-unfolding playingOf inBar
+pub good-start : (l : Line) → playingRefusal l ≡ 0 → GoodSoFar (timingOf l) (playingOf l) 0
+unfolding playingOf timingOf inBar
 good-start l e =
     let p = playing-passed l e in
     record {
-      shortest = p .shortest;
-      longest = p .longest;
+      time = record { shortest = p .shortest; longest = p .longest };
       onsets =
           record { one = p .one; sixty-four = p .sixty-four; most = omega arith; below = tt; pitches = tt; rising = tt; few = λ b. omega arith };
       before = tt;
@@ -113,28 +113,29 @@ rising-more : (m : ℕ) (os : List Onset) (o : Onset) → Rising m os → m ≤ 
 rising-more m [] o r h e = (h, tt)
 rising-more m (x ∷ os) o r h e = (r .0, rising-more (x .unit) os o (r .1) (e .0) (e .1))
 
-module _ (d : ℕ) (p : Playing) (last : ℕ) (l : Line) (h : GoodSoFar d p last) where
+module _ (timing : Timing) (p : Playing) (last : ℕ) (l : Line) (h : GoodSoFar timing p last) where
   abbrev u : ℕ
-  u = unitOf d (four l 1)
+  u = unitIn timing (four l 1)
 
-  few-more : (b : ℕ) → Dec (barOf u ≡ b) → inBar (barOf u) (p .onsets) < 32 → inBar b (p .onsets ++ (onsetOf d l ∷ [])) ≤ 32
+  abbrev o : Onset
+  o = onsetOf timing l
+
+  few-more : (b : ℕ) → Dec (barOf u ≡ b) → inBar (barOf u) (p .onsets) < 32 → inBar b (p .onsets ++ (o ∷ [])) ≤ 32
   unfolding onsetOf
-  few-more b (yes q) k =
-      rw (in-bar-more b (p .onsets) (onsetOf d l), eq-eqb _ _ q) (omega (arith, ap (λ (x : ℕ). inBar x (p .onsets)) q))
-  few-more b (no q) k = rw (in-bar-more b (p .onsets) (onsetOf d l), ne-eqb _ _ q) (omega (arith, h .onsets .few b))
+  few-more b (yes q) k = rw (in-bar-more b (p .onsets) o, eq-eqb _ _ q) (omega (arith, ap (λ (x : ℕ). inBar x (p .onsets)) q))
+  few-more b (no q) k = rw (in-bar-more b (p .onsets) o, ne-eqb _ _ q) (omega (arith, h .onsets .few b))
 
-  pub good-onset : onsetRefusal (p .bars) d last (length (p .onsets)) (inBar (barOf u) (p .onsets)) l ≡ 0
-      → GoodSoFar d (withOnset p (onsetOf d l)) (four l 1)
+  pub good-onset : onsetRefusal timing p last l ≡ 0 → GoodSoFar timing (withOnset p o) (four l 1)
   unfolding onsetOf withOnset
   good-onset e =
-      let k = onset-passed (p .bars) d last _ _ l e in
-      let o = onsetOf d l in
-      let up : unitOf d last ≤ u = unit-mono d (omega (arith, h .shortest)) (k .rises) in
+      let k = onset-passed timing p last l e in
+      let time = h .time in
+      let lasting : 0 < timing .duration = omega (arith, time .shortest) in
+      let up : unitIn timing last ≤ u = unit-mono (timing .duration) lasting (k .rises) in
       let earlier : Every (λ (x : Onset). x .unit ≤ u) (p .onsets) =
-      every-weaken (λ (x : Onset). x .unit ≤ unitOf d last) (λ (x : Onset). x .unit ≤ u) (λ x m. le-trans m up) (p .onsets) (h .before) in
+      every-weaken (λ (x : Onset). x .unit ≤ unitIn timing last) (λ (x : Onset). x .unit ≤ u) (λ x m. le-trans m up) (p .onsets) (h .before) in
       record {
-        shortest = h .shortest;
-        longest = h .longest;
+        time = time;
         onsets =
             record {
               one = h .onsets .one;
@@ -142,7 +143,7 @@ module _ (d : ℕ) (p : Playing) (last : ℕ) (l : Line) (h : GoodSoFar d p last
               most = rw (length-append (p .onsets) (o ∷ [])) (omega (arith, k .room));
               below =
                   every-more (λ (x : Onset). x .unit < p .bars * barUnits) (p .onsets) o (h .onsets .below)
-                  (unit-lt (p .bars) d (four l 1) (omega (arith, h .shortest)) (k .inside));
+                  (unit-lt (p .bars) (timing .duration) (four l 1) lasting (k .inside));
               pitches = every-more (λ (x : Onset). x .pitch ≤ 127) (p .onsets) o (h .onsets .pitches) (k .pitch);
               rising = rising-more 0 (p .onsets) o (h .onsets .rising) (omega arith) earlier;
               few = λ b. few-more b (ℕ-discrete (barOf u) b) (k .few);
@@ -158,60 +159,57 @@ module _ (g : Grammar) (l : Line) (h : Small l) (k : GoodRules g) where
   abbrev n : ℕ
   n = length (g .rules)
 
-  good-rules-line : (a b c : Bool)
-      → cond a (divisionRefusal q n l) (cond b (leafRefusal q n l) (cond c (demand (ltb 0 n) 3 (playingRefusal l)) 3)) ≡ 0
-      → GoodProgress
-      (cond a (inRules (withRule g (divisionOf l))) (cond b (inRules (withRule g (leafOf l))) (inOnsets g (four l 2) (playingOf l) 0)))
-  good-rules-line true b c z = good-with-rule g (divisionOf l) k (good-division q n l h z) (division-passed q n l z .room)
-  good-rules-line false true c z = good-with-rule g (leafOf l) k (good-leaf q n l h z) (leaf-passed q n l z .room)
-  good-rules-line false false true z =
+  good-rule-line : ruleRefusal q n l ≡ 0 → GoodRules (withRule g (ruleOf l))
+  unfolding ruleRefusal ruleOf
+  good-rule-line z = go (eqb (byte l 0) 0x44) (eqb (byte l 0) 0x4C) z
+    where
+      go : (a b : Bool) → cond a (divisionRefusal q n l) (cond b (leafRefusal q n l) 3) ≡ 0
+          → GoodRules (withRule g (cond a (divisionOf l) (leafOf l)))
+      go true b z = good-with-rule g (divisionOf l) k (good-division q n l h z) (division-passed q n l z .room)
+      go false true z = good-with-rule g (leafOf l) k (good-leaf q n l h z) (leaf-passed q n l z .room)
+      go false false z = let f : ⊥ = omega arith in absurd f
+
+  good-rules-line : (c : Bool) → cond c (demand (ltb 0 n) 3 (playingRefusal l)) (ruleRefusal q n l) ≡ 0
+      → GoodProgress (cond c (inOnsets g (timingOf l) (playingOf l) 0) (inRules (withRule g (ruleOf l))))
+  good-rules-line true z =
       let y = demand-zero (ltb 0 n) 2 (playingRefusal l) z in
       (k, ltb-true 0 n (y .0), good-start l (y .1))
-  good-rules-line false false false z = let f : ⊥ = omega arith in absurd f
+  good-rules-line false z = good-rule-line z
 
 -- a line that is not refused keeps what has been read good
 pub good-after : (r : Progress) (l : Line) → Small l → GoodProgress r → refusal r l ≡ 0 → GoodProgress (after r l)
 unfolding refusal rulesRefusal after
 good-after nothing l h g e = good-head l h (cond-zero (eqb (byte l 0) 0x47) (headRefusal l) 2 e .1)
-good-after (inRules g) l h k e = good-rules-line g l h k (eqb (byte l 0) 0x44) (eqb (byte l 0) 0x4C) (eqb (byte l 0) 0x45) e
-good-after (inOnsets g d p last) l h k e = (
-  k .0,
-  k .1,
-  good-onset d p last l (k .2) (cond-zero (eqb (byte l 0) 0x4E)
-      (onsetRefusal (p .bars) d last (length (p .onsets)) (inBar (barOf (unitOf d (four l 1))) (p .onsets)) l) 2 e .1),
-)
+good-after (inRules g) l h k e = good-rules-line g l h k (eqb (byte l 0) 0x45) e
+good-after (inOnsets g timing p last) l h k e =
+    (k .0, k .1, good-onset timing p last l (k .2) (cond-zero (eqb (byte l 0) 0x4E) (onsetRefusal timing p last l) 2 e .1))
 
--- an outcome is not both
-isAccepted : Outcome → ℕ
-isAccepted (refused k n) = 0
-isAccepted (accepted d s) = 1
+-- what holds of an accepted text: of its sheet and of its timing
+abbrev GoodText : TimedSheet → Type 0
+GoodText x = Good (x .sheet) × GoodTiming (x .timing)
 
-not-both : (k n d : ℕ) (s : Sheet) → refused k n ≡ accepted d s → ⊥
-unfolding isAccepted
-not-both k n d s e = let z : _≡_ {A = ℕ} 0 1 = ap isAccepted e in omega arith
-
--- the record of an accepted outcome
-abbrev Accepted : Outcome → Type 0
+abbrev Accepted : Outcome TimedSheet → Type 0
 Accepted (refused k n) = Unit {0}
-Accepted (accepted d s) = Good d s
+Accepted (accepted x) = GoodText x
 
 good-end : (r : Progress) (n : ℕ) → GoodProgress r → Accepted (atEnd r n)
 unfolding atEnd
 good-end nothing n h = tt
 good-end (inRules g) n h = tt
-good-end (inOnsets g d p last) n h = go (ltb 0 (length (p .onsets))) refl
+good-end (inOnsets g timing p last) n h = go (ltb 0 (length (p .onsets))) refl
   where
-    go : (k : Bool) → ltb 0 (length (p .onsets)) ≡ k → Accepted (cond k (accepted d (record { grammar = g; playing = p })) (refused 3 n))
+    go : (k : Bool) → ltb 0 (length (p .onsets)) ≡ k
+        → Accepted (cond k (accepted (record { sheet = record { grammar = g; playing = p }; timing = timing })) (refused 3 n))
     go false q = tt
-    go true q =
-        record {
-          shortest = h .2 .shortest;
-          longest = h .2 .longest;
-          rules = h .0;
-          some-rule = h .1;
-          onsets = h .2 .onsets;
-          some-onset = ltb-true 0 (length (p .onsets)) q;
-        }
+    go true q = (
+      record {
+        rules = h .0;
+        some-rule = h .1;
+        onsets = h .2 .onsets;
+        some-onset = ltb-true 0 (length (p .onsets)) q;
+      },
+      h .2 .time,
+    )
 
 good-lines : (r : Progress) (n : ℕ) (ls : List (List ℕ)) → Every (Every (λ (x : ℕ). x < 256)) ls → GoodProgress r
     → Accepted (readLines r n ls)
@@ -225,14 +223,21 @@ good-lines r n (b ∷ ls) s h = go (refusal r (lineOf b)) refl (λ g. good-lines
         subst Accepted (sym (read-on r n b ls q)) (next (good-after r (lineOf b) (line-small b (s .0)) h q))
     go (suc k) q next = subst Accepted (sym (read-stop r n b ls (suc k) (sym q) (λ x. omega arith))) tt
 
--- every accepted text means a good sheet
-pub good : (t : List ℕ) (d : ℕ) (s : Sheet) → readSheet t ≡ accepted d s → Good d s
-good t d s e = go (decLe (length t) 16384)
+-- whatever a text comes to
+sheet-accepted : (t : List ℕ) → Accepted (readSheet t)
+sheet-accepted t = go (decLe (length t) 16384)
   where
-    lines-go : (k : ℕ) → k ≡ badLine t → length t ≤ 16384 → Good d s
-    lines-go zero q h = subst Accepted (sym (well-formed t h (sym q)) ∙ e) (good-lines nothing 1 (lines t) (lines-small t) tt)
-    lines-go (suc k) q h = absurd (not-both 2 (suc k) d s (sym (ill-formed t h (suc k) q (λ x. omega arith)) ∙ e))
+    formed : (k : ℕ) → k ≡ badLine t → length t ≤ 16384 → Accepted (readSheet t)
+    formed zero q h = subst Accepted (sym (well-formed t h (sym q))) (good-lines nothing 1 (lines t) (lines-small t) tt)
+    formed (suc k) q h = subst Accepted (sym (ill-formed t h (suc k) q (λ x. omega arith))) tt
 
-    go : Dec (length t ≤ 16384) → Good d s
-    go (yes h) = lines-go (badLine t) refl h
-    go (no h) = absurd (not-both 1 0 d s (sym (too-long t (omega arith)) ∙ e))
+    go : Dec (length t ≤ 16384) → Accepted (readSheet t)
+    go (yes h) = formed (badLine t) refl h
+    go (no h) = subst Accepted (sym (too-long t (omega arith))) tt
+
+-- every accepted text means a good sheet, and its timing is good
+pub good : (t : List ℕ) (x : TimedSheet) → readSheet t ≡ accepted x → Good (x .sheet)
+good t x e = subst Accepted e (sheet-accepted t) .0
+
+pub good-timing : (t : List ℕ) (x : TimedSheet) → readSheet t ≡ accepted x → GoodTiming (x .timing)
+good-timing t x e = subst Accepted e (sheet-accepted t) .1

@@ -14,9 +14,10 @@ use Rattle.sheet.specs.declared.table.Rule.the-variants.{Division, Leaf}
 use Rattle.sheet.specs.declared.table.RuleCell.{RuleCell}
 use Rattle.sheet.specs.declared.table.GrammarTable.{GrammarTable}
 use Rattle.sheet.specs.declared.table.PlayingTable.{PlayingTable}
+use Rattle.sheet.specs.declared.table.TimingTable.{TimingTable}
 use Rattle.sheet.specs.declared.table.Reading.{Reading}
-use Rattle.sheet.specs.Sheet.{Rule, division, leaf, Onset, Grammar, Playing}
-use Rattle.sheet.specs.Reading.{Outcome, refused, accepted}
+use Rattle.sheet.specs.Sheet.{Rule, division, leaf, Onset, Grammar, Playing, Timing, TimedSheet}
+use Rattle.sheet.specs.Outcome.{Outcome, numberIn, lineIn, valueIn}
 
 abbrev pub micros : ℕ → Micros
 micros t = record { 0 = t }
@@ -87,9 +88,20 @@ noGrammar = record { nonterminals = 0; start = 0; multiplier = 0; rules = [] }
 abbrev pub noPlaying : ℕ → Playing
 noPlaying bars = record { bars = bars; onsets = [] }
 
--- what reading gives: a refusal with its number and its line, and zeros elsewhere; or number 0, line 0 and the sheet
-unfoldable pub readingOf : Outcome → Reading
-readingOf (refused k n) =
-    record { number = k; line = n; duration = micros 0; grammar = grammarTable noGrammar; playing = playingTable (noPlaying 0) }
-readingOf (accepted d s) =
-    record { number = 0; line = 0; duration = micros d; grammar = grammarTable (s .grammar); playing = playingTable (s .playing) }
+unfoldable pub timingTable : Timing → TimingTable
+timingTable timing = record { duration = micros (timing .duration) }
+
+-- no sheet: no grammar, no bars, no time
+abbrev pub noSheet : TimedSheet
+noSheet = record { sheet = record { grammar = noGrammar; playing = noPlaying 0 }; timing = record { duration = 0 } }
+
+-- what reading gives: a refusal with its number and its line, and zeros elsewhere; or number 0, line 0, the timing and the sheet
+unfoldable pub readingOf : Outcome TimedSheet → Reading
+readingOf o =
+    record {
+      number = numberIn o;
+      line = lineIn o;
+      timing = timingTable (valueIn noSheet o .timing);
+      grammar = grammarTable (valueIn noSheet o .sheet .grammar);
+      playing = playingTable (valueIn noSheet o .sheet .playing);
+    }

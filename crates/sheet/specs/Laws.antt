@@ -9,10 +9,11 @@ use lib.Dec.{eqb, leb, ltb}
 use borrow.Author.Tests.{le-leb, lt-leb, le-ltb, lt-ltb, leb-true, ltb-true}
 use Rattle.hextext.specs.Text.{badLine, lines}
 use Rattle.sheet.specs.declared.line.Line.{Line}
-use Rattle.sheet.specs.Sheet.{Grammar, Playing}
-use Rattle.sheet.specs.Reading.{demand, byte, four, allBelow, bytesFrom, lineOf, headRefusal, divisionRefusal, leafRefusal}
-use Rattle.sheet.specs.Reading.{playingRefusal, onsetRefusal, Progress, nothing, inRules, inOnsets, refusal, after}
-use Rattle.sheet.specs.Reading.{refused, accepted, atEnd, readLines, readFormed, readSheet}
+use Rattle.sheet.specs.Sheet.{Grammar, Playing, Timing, unitIn, endOf, barOf, inBar}
+use Rattle.sheet.specs.Outcome.{refused, accepted}
+use Rattle.sheet.specs.Reading.{demand, first, byte, four, allBelow, bytesFrom, lineOf, headRefusal, divisionRefusal, leafRefusal}
+use Rattle.sheet.specs.Reading.{playingRefusal, onsetForm, momentRefusal, roomRefusal, onsetRefusal, Progress, nothing, inRules}
+use Rattle.sheet.specs.Reading.{inOnsets, refusal, after, atEnd, readLines, readFormed, readSheet}
 
 -- a demand that gives 0 is met, and what comes after it gives 0
 pub demand-zero : (t : Bool) (r k : ℕ) → demand t (suc r) k ≡ 0 → (t ≡ true) × (k ≡ 0)
@@ -22,6 +23,19 @@ demand-zero false r k e = let f : ⊥ = omega arith in absurd f
 pub cond-zero : (t : Bool) (k r : ℕ) → cond t k (suc r) ≡ 0 → (t ≡ true) × (k ≡ 0)
 cond-zero true k r e = (refl, e)
 cond-zero false k r e = let f : ⊥ = omega arith in absurd f
+
+-- of two refusals, one after the other: both are 0; the first is met, and the second decides; the first is not
+pub first-zero : (a b : ℕ) → first a b ≡ 0 → (a ≡ 0) × (b ≡ 0)
+first-zero zero b e = (refl, e)
+first-zero (suc a) b e = let f : ⊥ = omega arith in absurd f
+
+pub first-met : (a b : ℕ) → a ≡ 0 → first a b ≡ b
+first-met zero b e = refl
+first-met (suc a) b e = let f : ⊥ = omega arith in absurd f
+
+pub first-failed : (a b : ℕ) → (a ≡ 0 → ⊥) → first a b ≡ a
+first-failed zero b f = absurd (f refl)
+first-failed (suc a) b f = refl
 
 -- k bytes of a line are k
 pub length-bytes : (l : Line) (k i : ℕ) → length (bytesFrom k i l) ≡ k
@@ -104,32 +118,39 @@ playing-passed l e =
       longest = leb-true _ _ (e₅ .0);
     }
 
-pub record OnsetPassed (bars duration last before here : ℕ) (l : Line) : Type 0 where
+pub moment-passed : (bars : ℕ) (timing : Timing) (last t : ℕ) → momentRefusal bars timing last t ≡ 0 → (last ≤ t) × (t < endOf bars timing)
+unfolding momentRefusal
+moment-passed bars timing last t e =
+    let e₁ = demand-zero (leb last t) 5 _ e in
+    let e₂ = demand-zero (ltb t (endOf bars timing)) 6 0 (e₁ .1) in
+    (leb-true _ _ (e₁ .0), ltb-true _ _ (e₂ .0))
+
+pub room-passed : (before here : ℕ) → roomRefusal before here ≡ 0 → (before < 512) × (here < 32)
+unfolding roomRefusal
+room-passed before here e =
+    let e₁ = demand-zero (ltb before 512) 7 _ e in
+    let e₂ = demand-zero (ltb here 32) 7 0 (e₁ .1) in
+    (ltb-true _ _ (e₁ .0), ltb-true _ _ (e₂ .0))
+
+form-passed : (l : Line) → onsetForm l ≡ 0 → byte l 5 ≤ 127
+unfolding onsetForm
+form-passed l e = leb-true _ _ (demand-zero (leb (byte l 5) 127) 4 _ (demand-zero (eqb (l .count) 7) 3 _ e .1) .0)
+
+pub record OnsetPassed (timing : Timing) (p : Playing) (last : ℕ) (l : Line) : Type 0 where
   pub pitch : byte l 5 ≤ 127
   pub rises : last ≤ four l 1
-  pub inside : four l 1 < bars * duration
-  pub room : before < 512
-  pub few : here < 32
+  pub inside : four l 1 < endOf (p .bars) timing
+  pub room : length (p .onsets) < 512
+  pub few : inBar (barOf (unitIn timing (four l 1))) (p .onsets) < 32
 
-pub onset-passed : (bars duration last before here : ℕ) (l : Line) → onsetRefusal bars duration last before here l ≡ 0
-    → OnsetPassed bars duration last before here l
+pub onset-passed : (timing : Timing) (p : Playing) (last : ℕ) (l : Line) → onsetRefusal timing p last l ≡ 0 → OnsetPassed timing p last l
 unfolding onsetRefusal
-onset-passed B d last n h l e =
-    let e₁ = demand-zero (eqb (l .count) 7) 3 _ e .1 in
-    let e₂ = demand-zero (leb (byte l 5) 127) 4 _ e₁ in
-    let e₃ = demand-zero (leb 1 (byte l 6)) 4 _ (e₂ .1) .1 in
-    let e₄ = demand-zero (leb (byte l 6) 127) 4 _ e₃ .1 in
-    let e₅ = demand-zero (leb last (four l 1)) 5 _ e₄ in
-    let e₆ = demand-zero (ltb (four l 1) (B * d)) 6 _ (e₅ .1) in
-    let e₇ = demand-zero (ltb n 512) 7 _ (e₆ .1) in
-    let e₈ = demand-zero (ltb h 32) 7 0 (e₇ .1) in
-    record {
-      pitch = leb-true _ _ (e₂ .0);
-      rises = leb-true _ _ (e₅ .0);
-      inside = ltb-true _ _ (e₆ .0);
-      room = ltb-true _ _ (e₇ .0);
-      few = ltb-true _ _ (e₈ .0);
-    }
+onset-passed timing p last l e =
+    let e₁ = first-zero (onsetForm l) _ e in
+    let e₂ = first-zero (momentRefusal (p .bars) timing last (four l 1)) _ (e₁ .1) in
+    let moment = moment-passed (p .bars) timing last (four l 1) (e₂ .0) in
+    let room = room-passed _ _ (e₂ .1) in
+    record { pitch = form-passed l (e₁ .0); rises = moment .0; inside = moment .1; room = room .0; few = room .1 }
 
 -- a line that is not refused, and one that is
 pub read-on : (r : Progress) (n : ℕ) (b : List ℕ) (ls : List (List ℕ)) → refusal r (lineOf b) ≡ 0
@@ -148,15 +169,15 @@ pub end-in-rules : (g : Grammar) (n : ℕ) → readLines (inRules g) n [] ≡ re
 unfolding readLines atEnd
 end-in-rules g n = refl
 
-pub end-without : (g : Grammar) (d : ℕ) (p : Playing) (last n : ℕ) → length (p .onsets) ≡ 0
-    → readLines (inOnsets g d p last) n [] ≡ refused 3 n
+pub end-without : (g : Grammar) (timing : Timing) (p : Playing) (last n : ℕ) → length (p .onsets) ≡ 0
+    → readLines (inOnsets g timing p last) n [] ≡ refused 3 n
 unfolding readLines atEnd
-end-without g d p last n e = simp (le-ltb 0 (length (p .onsets)) (omega arith))
+end-without g timing p last n e = simp (le-ltb 0 (length (p .onsets)) (omega arith))
 
-pub end-with : (g : Grammar) (d : ℕ) (p : Playing) (last n : ℕ) → (length (p .onsets) ≡ 0 → ⊥)
-    → readLines (inOnsets g d p last) n [] ≡ accepted d (record { grammar = g; playing = p })
+pub end-with : (g : Grammar) (timing : Timing) (p : Playing) (last n : ℕ) → (length (p .onsets) ≡ 0 → ⊥)
+    → readLines (inOnsets g timing p last) n [] ≡ accepted (record { sheet = record { grammar = g; playing = p }; timing = timing })
 unfolding readLines atEnd
-end-with g d p last n f = simp (lt-ltb 0 (length (p .onsets)) (omega (arith, f)))
+end-with g timing p last n f = simp (lt-ltb 0 (length (p .onsets)) (omega (arith, f)))
 
 -- refusals 1 and 2
 module _ (t : List ℕ) where

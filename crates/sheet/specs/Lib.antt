@@ -1,4 +1,5 @@
 pub mod Sheet
+pub mod Outcome
 pub mod Reading
 pub mod Clock
 pub mod Held

@@ -1,6 +1,5 @@
 -- Reading a sheet: refusals 1 to 8 of document 01 ("When it says no"), or the sheet's meaning. For each kind of line there is the number
--- of its refusal, its demands in the document's order, and what the line adds. A refusal is document 01's word for an answer that gives
--- a number and a line in place of a result.
+-- of its refusal, its demands in the document's order, and what the line adds.
 use Prim.Native.Nat.{ℕ, zero, suc, _+_, _*_}
 use mathlib.Core.Bool.{Bool, true, false, cond, _&&_}
 use mathlib.Core.List.{List, [], _∷_, _++_}
@@ -8,12 +7,18 @@ use lib.ListN.{length, getD}
 use lib.Dec.{ltb, leb, eqb}
 use Rattle.hextext.specs.Text.{badLine, lines}
 use Rattle.sheet.specs.declared.line.Line.{Line}
-use Rattle.sheet.specs.Sheet.{Rule, division, leaf, Onset, Grammar, Playing, Sheet, unitOf, barOf, inBar}
+use Rattle.sheet.specs.Sheet.{Rule, division, leaf, Onset, Grammar, Playing, Sheet, Timing, TimedSheet, unitOf, unitIn, endOf, barOf, inBar}
+use Rattle.sheet.specs.Outcome.{Outcome, refused, accepted, andThen}
 
 -- a demand: the number of the refusal where the test fails, and what comes after it where it holds; 0 is no refusal
 abbrev pub demand : Bool → (number after : ℕ) → ℕ
 demand true number after = after
 demand false number after = number
+
+-- the first of two refusals that is not 0: demands in two definitions, the second held to where the first is met
+abbrev pub first : (refusal after : ℕ) → ℕ
+first zero after = after
+first (suc k) after = suc k
 
 -- a line: how many bytes it has, and the bytes
 unfoldable pub lineOf : List ℕ → Line
@@ -83,6 +88,16 @@ leafOf l = leaf (byte l 1) (two l 2) (byte l 4)
 unfoldable pub withRule : Grammar → Rule → Grammar
 withRule g r = record { nonterminals = g .nonterminals; start = g .start; multiplier = g .multiplier; rules = g .rules ++ (r ∷ []) }
 
+-- a line that adds a rule, by its kind; any other kind is out of order
+unfoldable pub ruleRefusal : (q before : ℕ) → Line → ℕ
+ruleRefusal q before l =
+    cond (eqb (byte l 0) 0x44) (divisionRefusal q before l)
+    (cond (eqb (byte l 0) 0x4C) (leafRefusal q before l)
+    3)
+
+unfoldable pub ruleOf : Line → Rule
+ruleOf l = cond (eqb (byte l 0) 0x44) (divisionOf l) (leafOf l)
+
 -- `45` playing head, 6 bytes: kind, bars B (1 to 64), one bar's duration in microseconds (4 bytes, 1,000 to 60,000,000)
 unfoldable pub playingRefusal : Line → ℕ
 playingRefusal l =
@@ -96,94 +111,95 @@ playingRefusal l =
 unfoldable pub playingOf : Line → Playing
 playingOf l = record { bars = byte l 1; onsets = [] }
 
--- `4E` onset, 7 bytes: kind, time in microseconds (4), pitch (0 to 127), velocity (1 to 127); time below the one before, `last` (6);
--- time at
--- or past B × duration (7); onset 513 (8), onset 33 of a bar (8). `before` is the number of onsets before it, `here` of those in its bar
-unfoldable pub onsetRefusal : (bars duration last before here : ℕ) → Line → ℕ
-onsetRefusal bars duration last before here l =
+unfoldable pub timingOf : Line → Timing
+timingOf l = record { duration = four l 2 }
+
+-- `4E` onset, 7 bytes: kind, time in microseconds (4), pitch (0 to 127), velocity (1 to 127)
+unfoldable pub onsetForm : Line → ℕ
+onsetForm l =
     demand (eqb (l .count) 7) 4
     (demand (leb (byte l 5) 127) 5
     (demand (leb 1 (byte l 6)) 5
     (demand (leb (byte l 6) 127) 5
-    (demand (leb last (four l 1)) 6
-    (demand (ltb (four l 1) (bars * duration)) 7
-    (demand (ltb before 512) 8
-    (demand (ltb here 32) 8
-    0)))))))
+    0)))
 
-unfoldable pub onsetOf : (duration : ℕ) → Line → Onset
-onsetOf duration l = record { unit = unitOf duration (four l 1); pitch = byte l 5 }
+-- a moment t: time below the one before, `last` (6); time at or past B × duration (7)
+unfoldable pub momentRefusal : (bars : ℕ) → Timing → (last t : ℕ) → ℕ
+momentRefusal bars timing last t =
+    demand (leb last t) 6
+    (demand (ltb t (endOf bars timing)) 7
+    0)
+
+-- room for an onset: onset 513, onset 33 of a bar (8). `before` is the number of onsets before it, `here` of those in its bar
+unfoldable pub roomRefusal : (before here : ℕ) → ℕ
+roomRefusal before here =
+    demand (ltb before 512) 8
+    (demand (ltb here 32) 8
+    0)
+
+-- an onset after the playing p, whose last onset is at the time `last`
+unfoldable pub onsetRefusal : Timing → Playing → (last : ℕ) → Line → ℕ
+onsetRefusal timing p last l =
+    first (onsetForm l)
+    (first (momentRefusal (p .bars) timing last (four l 1))
+    (roomRefusal (length (p .onsets)) (inBar (barOf (unitIn timing (four l 1))) (p .onsets))))
+
+unfoldable pub onsetOf : Timing → Line → Onset
+onsetOf timing l = record { unit = unitIn timing (four l 1); pitch = byte l 5 }
 
 unfoldable pub withOnset : Playing → Onset → Playing
 withOnset p o = record { bars = p .bars; onsets = p .onsets ++ (o ∷ []) }
 
--- what has been read so far: nothing; from the `47` line on the grammar; from the `45` line on also one bar's duration, the playing and
--- the time of the last onset, 0 before the first
+-- what has been read so far: nothing; from the `47` line on the grammar; from the `45` line on also the timing, the playing and the time
+-- of the last onset, 0 before the first
 pub data Progress : Type 0 where
   nothing : Progress
   inRules : Grammar → Progress
-  inOnsets : Grammar → (duration : ℕ) → Playing → (last : ℕ) → Progress
+  inOnsets : Grammar → Timing → Playing → (last : ℕ) → Progress
 
--- after the `47` line, with q nonterminals and `before` rules: a `44`, a `4C`, or the `45` line after one rule or more
+-- after the `47` line, with q nonterminals and `before` rules: the `45` line after one rule or more, or a rule
 unfoldable pub rulesRefusal : (q before : ℕ) → Line → ℕ
 rulesRefusal q before l =
-    cond (eqb (byte l 0) 0x44) (divisionRefusal q before l)
-    (cond (eqb (byte l 0) 0x4C) (leafRefusal q before l)
-    (cond (eqb (byte l 0) 0x45) (demand (ltb 0 before) 3 (playingRefusal l))
-    3))
+    cond (eqb (byte l 0) 0x45) (demand (ltb 0 before) 3 (playingRefusal l))
+    (ruleRefusal q before l)
 
 -- "Order: one 47; 1 to 64 lines of 44 or 4C; one 45; 1 to 512 of 4E": the refusal of the next line, 3 to 8; 0: none
 unfoldable pub refusal : Progress → Line → ℕ
 refusal nothing l = cond (eqb (byte l 0) 0x47) (headRefusal l) 3
 refusal (inRules g) l = rulesRefusal (g .nonterminals) (length (g .rules)) l
-refusal (inOnsets g duration p last) l =
-    cond (eqb (byte l 0) 0x4E)
-    (onsetRefusal (p .bars) duration last (length (p .onsets)) (inBar (barOf (unitOf duration (four l 1))) (p .onsets)) l)
-    3
+refusal (inOnsets g timing p last) l = cond (eqb (byte l 0) 0x4E) (onsetRefusal timing p last l) 3
 
 -- what has been read after a line that is not refused
 unfoldable pub after : Progress → Line → Progress
 after nothing l = inRules (headOf l)
-after (inRules g) l =
-    cond (eqb (byte l 0) 0x44) (inRules (withRule g (divisionOf l)))
-    (cond (eqb (byte l 0) 0x4C) (inRules (withRule g (leafOf l)))
-    (inOnsets g (four l 2) (playingOf l) 0))
-after (inOnsets g duration p last) l = inOnsets g duration (withOnset p (onsetOf duration l)) (four l 1)
-
--- a refusal with its number and its line; or an accepted text: one bar's duration, and the sheet
-pub data Outcome : Type 0 where
-  refused : (number line : ℕ) → Outcome
-  accepted : (duration : ℕ) → Sheet → Outcome
-
--- "a refusal gives its number, the line"; "an accepted call gives number 0 and line 0"
-abbrev pub numberIn : Outcome → ℕ
-numberIn (refused k n) = k
-numberIn (accepted d s) = 0
-
-abbrev pub lineIn : Outcome → ℕ
-lineIn (refused k n) = n
-lineIn (accepted d s) = 0
+after (inRules g) l = cond (eqb (byte l 0) 0x45) (inOnsets g (timingOf l) (playingOf l) 0) (inRules (withRule g (ruleOf l)))
+after (inOnsets g timing p last) l = inOnsets g timing (withOnset p (onsetOf timing l)) (four l 1)
 
 -- the text ends where line n would be next: 3 before a `4E`
-unfoldable pub atEnd : Progress → ℕ → Outcome
+unfoldable pub atEnd : Progress → ℕ → Outcome TimedSheet
 atEnd nothing n = refused 3 n
 atEnd (inRules g) n = refused 3 n
-atEnd (inOnsets g duration p last) n =
-    cond (ltb 0 (length (p .onsets))) (accepted duration (record { grammar = g; playing = p })) (refused 3 n)
+atEnd (inOnsets g timing p last) n =
+    cond (ltb 0 (length (p .onsets))) (accepted (record { sheet = record { grammar = g; playing = p }; timing = timing })) (refused 3 n)
 
--- the lines from line n on: the first that is refused, or the sheet
-unfoldable pub readLines : Progress → ℕ → List (List ℕ) → Outcome
+-- the lines from line n on: the first that is refused, or what they mean
+unfoldable pub readLines : Progress → ℕ → List (List ℕ) → Outcome TimedSheet
 readLines r n [] = atEnd r n
 readLines r n (l ∷ ls) =
     elim (refusal r (lineOf l)) [ zero ↦ readLines (after r (lineOf l)) (n + 1) ls | suc k ↦ refused (suc k) n ]
 
 -- refusal 2 over the whole text, given its first bad line, 0 for none; then line by line
-unfoldable pub readFormed : ℕ → List ℕ → Outcome
+unfoldable pub readFormed : ℕ → List ℕ → Outcome TimedSheet
 readFormed zero t = readLines nothing 1 (lines t)
 readFormed (suc n) t = refused 2 (suc n)
 
 -- refusal 1, text over 16,384 bytes; then 2; then line by line 3, 4, 5, 6, 7, 8
-unfoldable pub readSheet : List ℕ → Outcome
-unfolding readFormed badLine readLines lines lineOf atEnd refusal rulesRefusal after headRefusal headOf divisionRefusal divisionOf allBelow bytesFrom
-    leafRefusal leafOf withRule playingRefusal playingOf onsetRefusal onsetOf withOnset inBar unitOf two four
+unfoldable pub readSheet : List ℕ → Outcome TimedSheet
+unfolding readFormed badLine readLines lines lineOf atEnd refusal rulesRefusal ruleRefusal ruleOf after headRefusal headOf divisionRefusal
+    divisionOf allBelow bytesFrom leafRefusal leafOf withRule playingRefusal playingOf timingOf onsetForm momentRefusal roomRefusal onsetRefusal
+    onsetOf withOnset inBar unitOf two four
 readSheet t = elim (leb (length t) 16384) [ true ↦ readFormed (badLine t) t | false ↦ refused 1 0 ]
+
+-- "Each operation takes the sheet as its text and checks it itself": the refusal of a text that is no sheet comes first
+unfoldable pub onSheet : {A : Type 0} → (text : List ℕ) → (Sheet → Outcome A) → Outcome A
+onSheet text operation = andThen (readSheet text) (λ x. operation (x .sheet))

@@ -1,5 +1,5 @@
 -- What a sheet means (document 01, "The sheet" and "Two clocks"; a sheet is document 01's word for a grammar with a performance).
--- Layers above reading see `Sheet` alone: musical time in units, never a duration or a time in microseconds.
+-- Layers above reading see `Sheet` alone: musical time in units. Real time stands beside it, in `Timing`.
 use Prim.Native.Nat.{ℕ, _+_, _*_, _/_}
 use mathlib.Core.Bool.{cond}
 use mathlib.Core.List.{List, [], _∷_}
@@ -31,6 +31,15 @@ pub record Sheet : Type 0 where
   pub grammar : Grammar
   pub playing : Playing
 
+-- the real time of a playing: one bar's duration in microseconds
+pub record Timing : Type 0 where
+  pub duration : ℕ
+
+-- what a text means: a sheet, and its real time beside it
+pub record TimedSheet : Type 0 where
+  pub sheet : Sheet
+  pub timing : Timing
+
 -- "A bar has 20,160 units"
 abbrev pub barUnits : ℕ
 barUnits = 20160
@@ -38,6 +47,13 @@ barUnits = 20160
 -- "An onset at t microseconds is at unit floor(t × 20,160 / duration), counted from the first bar"
 unfoldable pub unitOf : (duration t : ℕ) → ℕ
 unitOf duration t = t * barUnits / duration
+
+-- the unit of a moment, and the moment at which a playing of so many bars ends
+abbrev pub unitIn : Timing → (moment : ℕ) → ℕ
+unitIn timing t = unitOf (timing .duration) t
+
+abbrev pub endOf : (bars : ℕ) → Timing → ℕ
+endOf bars timing = bars * timing .duration
 
 -- the bar of a unit, from 0
 abbrev pub barOf : ℕ → ℕ

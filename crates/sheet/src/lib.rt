@@ -18,3 +18,4 @@ pub use table::PlayingTable;
 pub use table::Reading;
 pub use table::Rule;
 pub use table::RuleCell;
+pub use table::TimingTable;

@@ -31,11 +31,16 @@ pub struct PlayingTable {
     pub pitches: [u8; 512],
 }
 
-// What reading gives: a refusal with its number and its line, and zeros elsewhere; or number 0, line 0 and the sheet.
+// The real time of a playing: one bar's duration. It stands beside the sheet, which has musical time alone.
+pub struct TimingTable {
+    pub duration: Micros,
+}
+
+// What reading gives: a refusal with its number and its line, and zeros elsewhere; or number 0, line 0, the timing and the sheet.
 pub struct Reading {
     pub number: u8,
     pub line: usize,
-    pub duration: Micros,
+    pub timing: TimingTable,
     pub grammar: GrammarTable,
     pub playing: PlayingTable,
 }

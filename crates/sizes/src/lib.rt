@@ -252,7 +252,7 @@ pub fn tree_bytes(p: PlayingTable) -> usize
 // The required length of finding's work slice, in cells.
 pub fn work_cells(g: GrammarTable, p: PlayingTable) -> usize
     requires { ⌜ (g .count ≤ 64) × (p .count ≤ 512) ⌝ }
-    ensures { λ r. ⌜ ((d : ℕ) (s : Sheet) → Good d s → g ≡ grammarTable (s .grammar) → p ≡ playingTable (s .playing) → r ≡ workCells s) ⌝ }
+    ensures { λ r. ⌜ ((s : Sheet) → Good s → g ≡ grammarTable (s .grammar) → p ≡ playingTable (s .playing) → r ≡ workCells s) ⌝ }
 {
     let reached = lengths(g);
     let most = most_in_bar(p);

@@ -9,8 +9,9 @@ use mathlib.Core.Option.{none, some, Option·elim}
 use lib.Dec.{eqb}
 use lib.ListN.{length, replicate}
 use Rattle.sheet.specs.Literal.{textOf, times}
-use Rattle.sheet.specs.Sheet.{Sheet}
-use Rattle.sheet.specs.Reading.{Outcome, refused, accepted, readSheet}
+use Rattle.sheet.specs.Sheet.{Sheet, TimedSheet}
+use Rattle.sheet.specs.Outcome.{Outcome, refused, accepted}
+use Rattle.sheet.specs.Reading.{readSheet}
 use Rattle.sheet.specs.Cases.{grammarS, headS, S}
 use Rattle.derivations.specs.Derivation.{derive, onto}
 use Rattle.derivations.specs.Minima.{lowest}
@@ -51,10 +52,10 @@ judged s no-tree = eqb (leastTotal s) NONE
 judged s (priced bs R D) = pricedAs s bs R D
 judged s (no-valid bs) = not (isTree s bs)
 
-unfoldable pub judgedOf : Outcome → Verdict → Bool
+unfoldable pub judgedOf : Outcome TimedSheet → Verdict → Bool
 unfolding judged
 judgedOf (refused k n) v = false
-judgedOf (accepted d s) v = judged s v
+judgedOf (accepted x) v = judged (x .sheet) v
 
 unfoldable pub holds : Case → Bool
 unfolding judgedOf readSheet

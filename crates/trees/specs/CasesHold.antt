@@ -11,10 +11,11 @@ use lib.ListN.{length, replicate}
 use borrow.Author.Tests.{eqb-true, not-true}
 use Rattle.slices.specs.Every.{Every}
 use Rattle.slices.specs.Test.{and-both}
-use Rattle.sheet.specs.Sheet.{Sheet}
+use Rattle.sheet.specs.Sheet.{Sheet, TimedSheet}
+use Rattle.sheet.specs.Outcome.{Outcome, refused, accepted}
 use Rattle.sheet.specs.Good.{Good}
 use Rattle.sheet.specs.GoodLaws.{good}
-use Rattle.sheet.specs.Reading.{Outcome, refused, accepted, readSheet}
+use Rattle.sheet.specs.Reading.{readSheet}
 use Rattle.derivations.specs.Derivation.{Price, derive, price-eq}
 use Rattle.trees.specs.ValidTrees.{bars, ValidTree, Priced, totalOf}
 use Rattle.trees.specs.Instance.{instanceOf, Derived}
@@ -34,10 +35,9 @@ Says s (no-valid bytes) = ValidTree s bytes → ⊥
 
 -- the text means a sheet, and the verdict is true of it
 pub record Holds (c : Case) : Type 0 where
-  pub duration : ℕ
-  pub sheet : Sheet
-  pub read : readSheet (c .text) ≡ accepted duration sheet
-  pub says : Says sheet (c .verdict)
+  pub means : TimedSheet
+  pub read : readSheet (c .text) ≡ accepted means
+  pub says : Says (means .sheet) (c .verdict)
 
 module _ (s : Sheet) where
   priced-as : (bs : List ℕ) (R D : ℕ) → pricedAs s bs R D ≡ true → Priced s bs R D
@@ -57,7 +57,7 @@ module _ (s : Sheet) where
   unfolding isTree Derived
   is-tree bs v = let (R, D, p) = own-price s bs v in rw (valid-derived s bs R D p, isTree) refl
 
-  module _ (d : ℕ) (ok : Good d s) where
+  module _ (ok : Good s) where
     judged-says : (v : Verdict) → judged s v ≡ true → Says s v
     unfolding judged
     judged-says (least bs R D t) e =
@@ -70,7 +70,7 @@ module _ (s : Sheet) where
           },
           eqb-true _ _ x,
         )
-    judged-says no-tree e = none-valid s d ok (omega (arith, eqb-true (leastTotal s) NONE e))
+    judged-says no-tree e = none-valid s ok (omega (arith, eqb-true (leastTotal s) NONE e))
     judged-says (priced bs R D) e = priced-as bs R D e
     judged-says (no-valid bs) e = λ v. false≢true (sym (not-true _ e) ∙ is-tree bs v)
 
@@ -78,10 +78,9 @@ holds-means : (c : Case) → holds c ≡ true → Holds c
 unfolding holds judgedOf
 holds-means c = go (readSheet (c .text)) refl
   where
-    go : (o : Outcome) → readSheet (c .text) ≡ o → judgedOf o (c .verdict) ≡ true → Holds c
+    go : (o : Outcome TimedSheet) → readSheet (c .text) ≡ o → judgedOf o (c .verdict) ≡ true → Holds c
     go (refused k n) r e = absurd (false≢true e)
-    go (accepted d s) r e =
-        record { duration = d; sheet = s; read = r; says = judged-says s d (good (c .text) d s r) (c .verdict) e }
+    go (accepted x) r e = record { means = x; read = r; says = judged-says (x .sheet) (good (c .text) x r) (c .verdict) e }
 
 every-true : (cs : List Case) → map holds cs ≡ replicate (length cs) true → Every Holds cs
 every-true [] e = tt

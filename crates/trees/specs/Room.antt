@@ -128,7 +128,7 @@ module _ (s : Sheet) where
     pub nodes : sumOf room gs ≤ 41024
     pub distances : sumOf reach gs ≤ 10321920
 
-  pub stretch-bars : {d : ℕ} → Good d s → Stretch (bars s)
+  pub stretch-bars : Good s → Stretch (bars s)
   stretch-bars good =
       record {
         nodes = omega (arith, bars-room, good .onsets .sixty-four, good .onsets .most);

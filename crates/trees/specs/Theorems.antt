@@ -1,5 +1,5 @@
 -- What holds of the valid trees of every accepted sheet: how many nodes they have, how much they total, and that there is none or a least
--- one. (`Good d s` holds of every sheet that a text means: `sheet`'s `GoodLaws.good`. Where their intervals lie is in `Intervals`.)
+-- one. (`Good s` holds of every sheet that a text means: `sheet`'s `GoodLaws.good`. Where their intervals lie is in `Intervals`.)
 use Prim.Native.Nat.{ℕ, _+_, _*_, _≤_, _<_, _^_}
 use mathlib.Core.Path.{_≡_}
 use mathlib.Core.List.{List, [], _∷_}
@@ -31,7 +31,7 @@ valid-bytes s bs v =
     let (R, D, p) = own-price s bs v in
     rules-below (lawful s) bs (bars s) 0 _ (valid-derived s bs R D p)
 
-module _ (s : Sheet) (d : ℕ) (good : Good d s) where
+module _ (s : Sheet) (good : Good s) where
   -- at most B + 80 × N nodes, and for a part of a tree no more than its item has room for
   pub node-count : (bs : List ℕ) → ValidTree s bs → length bs ≤ s .playing .bars + 80 * length (s .playing .onsets)
   unfolding Derived

@@ -1,6 +1,5 @@
 -- `read_onsets` meets its contract. The loop's invariant is `OnsetsSoFar`: the lines before place `at` have been read as `n` onsets, and
--- the
--- outcome is that of the lines from there on. The measure is what is left of the text. Assumes nothing.
+-- the outcome is that of the lines from there on. The measure is what is left of the text. Assumes nothing.
 use borrow.Author.Needs.{needs}
 use native.Mathlib.Omega.{arith}
 use Prim.Native.Nat.{_-_, _<_}
@@ -9,16 +8,18 @@ use native.Mathlib.Nat.{le-trans, le-of-eq}
 use lib.ListN.{length}
 use Rattle.hextext.specs.Laws.{line-falls}
 use Rattle.playing.proofs.OnsetLoop.{OnsetsSoFar, onsets-none, onsets-stop, onsets-room, onsets-more, onsets-missing}
-use Rattle.playing.proofs.OnsetLoop.{onsets-done, onsets-refused}
+use Rattle.playing.proofs.OnsetLoop.{onsets-done, take-refused}
+use Rattle.sheet.specs.Held.{timingTable}
+use Rattle.playing.specs.Steps.{timingIn}
 use Rattle.playing.proofs.read_onsets.Statement.{statement}
 use Rattle.playing.proofs.read_onsets.Tie as tie
 
 abbrev Inv-loop : tie.InvT-loop
-Inv-loop text at line bars duration playing₀ latest₀ at₀ line₀ n₀ playing latest at' line' n = OnsetsSoFar text at line bars
-    (duration .0) playing latest at' line' n
+Inv-loop text at line bars timing playing₀ latest₀ at₀ line₀ n₀ playing latest at' line' n = OnsetsSoFar text at line bars
+    (timingIn timing) playing latest at' line' n
 
 abbrev μ-loop : tie.MeasureT-loop
-μ-loop text at line bars duration playing₀ latest₀ at₀ line₀ n₀ playing latest at' line' n = length text - at'
+μ-loop text at line bars timing playing₀ latest₀ at₀ line₀ n₀ playing latest at' line' n = length text - at'
 
 -- where a line is taken as an onset there is room for it
 room : (c : tie.Else1 Inv-loop μ-loop) → c .before .before .before .before .before .loop .n < 512
@@ -48,7 +49,7 @@ returns : tie.Need-returns Inv-loop μ-loop
 returns c g =
     let loop = c .before .before .before .before .before .loop in
     let line-at = c .before .before .before .line-at in
-    onsets-refused _ (c .if1 .taken)
+    take-refused _ (c .if1 .taken)
     (onsets-stop (loop .inv) (search needs) _ (line-at .ensures .line) (c .before .onset-step .result) (c .before .onset-step .ensures) g
     (c .if1 .taken))
 
@@ -90,15 +91,23 @@ loop-again c =
 returns-2 : tie.Need-returns-2 Inv-loop μ-loop
 returns-2 c g =
     let loop = c .before .before .loop in
-    onsets-refused _ (λ z. omega arith) (onsets-missing (loop .inv) (search needs) g (c .if2 .taken))
+    take-refused _ (λ z. omega arith) (onsets-missing (loop .inv) (search needs) g (c .if2 .taken))
 
 returns-3 : tie.Need-returns-3 Inv-loop μ-loop
+unfolding timingTable
 returns-3 c g =
     let loop = c .before .before .loop in
     let h = loop .inv in
     record {
       stopped = λ f. absurd (f refl);
-      done = λ z. record { playing = h .playing; table = h .table-is; sheet = onsets-done h (search needs) g (c .if2 .left) };
+      done = λ z.
+          record {
+            playing = h .playing;
+            timing = timingIn _;
+            table = h .table-is;
+            timing-table = refl;
+            sheet = onsets-done h (search needs) g (c .if2 .left);
+          };
     }
 
 pub read-onsets-spec : {M : Type 1} → statement M

@@ -1,6 +1,6 @@
 -- `refused_at` meets its contract: zeros beside the number and the line. Assumes nothing.
 use borrow.Author.Needs.{needs}
-use Rattle.sheet.specs.Held.{readingOf, micros}
+use Rattle.sheet.specs.Held.{readingOf, micros, timingTable}
 use Rattle.reading.proofs.refused_at.Statement.{statement}
 use Rattle.reading.proofs.refused_at.Tie as tie
 
@@ -11,13 +11,13 @@ no-onsets-requires : tie.Need-no-onsets-requires
 no-onsets-requires c κs = search needs
 
 returns : tie.Need-returns
-unfolding readingOf
+unfolding readingOf timingTable
 returns c =
     let args = c .before .before .args in
     λ j. record {
       number = args .number;
       line = args .line;
-      duration = micros 0;
+      timing = record { duration = micros 0 };
       grammar = c .before .no-grammar .ensures j;
       playing = c .no-onsets .ensures j;
     }

@@ -50,7 +50,7 @@ mul-result-2 c = let m = product-small (c .before) in record { fits = omega arit
 
 returns : tie.Need-returns
 unfolding workCells grammarTable playingTable lengthTable
-returns c d s good eg ep =
+returns c s good eg ep =
     let lengths = c .before .before .before .before .lengths in
     let most-in-bar = c .before .before .before .most-in-bar in
     let counted = ap (λ (x : LengthTable). x .count) (lengths .ensures .1 (s .grammar) (good .rules) eg)

@@ -3,8 +3,8 @@ use borrow.Author.Needs.{needs}
 use mathlib.Core.Path.{sym}
 use Rattle.sheet.specs.Reading.{playingRefusal}
 use Rattle.sheet.specs.Demands.{demands}
-use Rattle.grammar.proofs.playing_refusal.Statement.{statement}
-use Rattle.grammar.proofs.playing_refusal.Tie as tie
+use Rattle.playing.proofs.playing_refusal.Statement.{statement}
+use Rattle.playing.proofs.playing_refusal.Tie as tie
 
 returns : tie.Need-returns
 unfolding playingRefusal
