@@ -162,7 +162,7 @@ fn right_bound(over: Interval) -> Units {
 }
 
 // Puts the parts of rule r, k items of a length, before the others.
-fn with_parts(children: &[u8; 512], r: usize, k: u8, len: u32, p: Place) -> Place
+fn with_parts(children: &[u8; 512], r: usize, k: u8, len: Units, p: Place) -> Place
     requires { ⌜ r < 64 ⌝ }
 {
     let mut q = p;
@@ -172,7 +172,7 @@ fn with_parts(children: &[u8; 512], r: usize, k: u8, len: u32, p: Place) -> Plac
         let top = q.items;
         if top < 134 {
             q.names[top] = children[8 * r + j];
-            q.lens[top] = len;
+            q.lens[top] = len.0;
             q.items = top + 1;
         }
     }
@@ -200,7 +200,7 @@ pub fn place_behind(children: &[u8; 512], r: usize, m: Move, item: Item, p: Plac
             if k == 0 {
                 return q;
             }
-            with_parts(children, r, arity, over.len.0 / k, q)
+            with_parts(children, r, arity, Units(over.len.0 / k), q)
         }
     }
 }
