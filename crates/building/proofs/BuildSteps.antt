@@ -12,11 +12,9 @@ use Rattle.sheet.specs.declared.clock.Units.{Units}
 use Rattle.sheet.specs.Sheet.{Sheet}
 use Rattle.sheet.specs.Good.{GoodRules}
 use Rattle.derivations.specs.Derivation.{Item, Expansion, unspent}
-use Rattle.derivations.specs.Least.{carry-fits}
 use Rattle.derivations.specs.First.{first-nil}
 use Rattle.trees.specs.Instance.{onsetsIn, lateCount, atLeaf, instanceOf}
-use Rattle.trees.specs.LeastTotal.{NONE, carries}
-use Rattle.trees.specs.Laws.{lawful}
+use Rattle.trees.specs.LeastTotal.{NONE}
 use Rattle.trees.specs.Expansions.{Step, step-of, may-divide}
 use Rattle.trees.specs.Room.{room-pays, good-division}
 use Rattle.expansions.specs.declared.Placed.{Placed}
@@ -174,8 +172,3 @@ module _ {s : Sheet} {plan us rows tree : List ℕ} {bar : Bar} {q l : ℕ} {lef
           let at-h = h .entry .stands .in-bar .prepared .length-at (p .part) (omega (arith, by .shorter, lengths-most s)) in
           let two : 2 ≤ p .arity = omega (arith, good-division s rules r q (by .weight) (by .parts) (by .rule) .two, by .count) in
           omega (arith, at-l, at-h, by .whole, length-positive s rules (p .part) (by .shorter), mul-le-mul-right (lengthAt s (p .part)) two)
-
-  -- what is built leaves a carry state
-  pub built-small : {now then : List ℕ} {b : Built} → BuiltAs s now tree then (g ∷ []) (at v) c to b → b .carry < carries
-  built-small built =
-      rw (built .carry-is) (carry-fits (lawful s) (built .bytes) (g ∷ []) c (built .price) (built .first .reads) (h .entry .few))

@@ -1,5 +1,5 @@
--- The first of the least lists in dictionary order: what it is, that there is one at most, and how it comes of others, over two lists of
--- items and at an item by its rules.
+-- The first of the least lists in dictionary order: what it is, and how it comes of others, over two lists of items and at an item by its
+-- rules.
 use Prim.Native.Nat.{ℕ, _≤_, _<_}
 use mathlib.Core.Path.{_≡_, refl, sym, ap, ap₂, _∙_}
 use mathlib.Core.List.{List, [], _∷_, _++_}
@@ -18,27 +18,6 @@ Lex [] [] = Unit {0}
 Lex [] (y ∷ ys) = ⊥
 Lex (x ∷ xs) [] = ⊥
 Lex (x ∷ xs) (y ∷ ys) = (x < y) ⊎ ((x ≡ y) × Lex xs ys)
-
--- dictionary order, in which a list comes before those that it begins
-abbrev pub Dict : List ℕ → List ℕ → Type 0
-Dict [] ys = Unit {0}
-Dict (x ∷ xs) [] = ⊥
-Dict (x ∷ xs) (y ∷ ys) = (x < y) ⊎ ((x ≡ y) × Dict xs ys)
-
-pub lex-dict : (xs ys : List ℕ) → Lex xs ys → Dict xs ys
-lex-dict [] ys h = tt
-lex-dict (x ∷ xs) [] h = absurd h
-lex-dict (x ∷ xs) (y ∷ ys) (inl h) = inl h
-lex-dict (x ∷ xs) (y ∷ ys) (inr (e, h)) = inr (e, lex-dict xs ys h)
-
-pub lex-antisym : (xs ys : List ℕ) → Lex xs ys → Lex ys xs → xs ≡ ys
-lex-antisym [] [] h k = refl
-lex-antisym [] (y ∷ ys) h k = absurd h
-lex-antisym (x ∷ xs) [] h k = absurd h
-lex-antisym (x ∷ xs) (y ∷ ys) (inl h) (inl k) = absurd (omega arith)
-lex-antisym (x ∷ xs) (y ∷ ys) (inl h) (inr (e, k)) = absurd (omega arith)
-lex-antisym (x ∷ xs) (y ∷ ys) (inr (e, h)) (inl k) = absurd (omega arith)
-lex-antisym (x ∷ xs) (y ∷ ys) (inr (e, h)) (inr (d, k)) = ap₂ _∷_ e (lex-antisym xs ys h k)
 
 pub lex-append : (xs ys s t : List ℕ) → Lex xs ys → (xs ≡ ys → Lex s t) → Lex (xs ++ s) (ys ++ t)
 lex-append [] [] s t h k = k refl
@@ -68,11 +47,6 @@ module _ (P : Instance) (a : ℕ) where
 
       lex : (xs : List ℕ) (q : Price) → derive P xs [] c ≡ some q → total a v q ≤ total a v (unspent c) → Lex [] xs
       lex xs q h k = let (ex, eq) = derive-nil P xs c q h in rw ex tt
-
-  -- there is one first list at most
-  pub first-unique : (gs : List Item) (v : ℕ → ℕ) (c : ℕ) (bs xs : List ℕ) (p q : Price) → First gs v c bs p → First gs v c xs q → bs ≡ xs
-  first-unique gs v c bs xs p q f k =
-      lex-antisym bs xs (f .first xs q (k .reads) (k .least bs p (f .reads))) (k .first bs p (f .reads) (f .least xs q (k .reads)))
 
   -- it totals what the least total says
   pub first-total : (cap : ℕ) (gs : List Item) (v : ℕ → ℕ) (c u : ℕ) (bs : List ℕ) (p : Price) → Least P a cap gs v c u → u < cap

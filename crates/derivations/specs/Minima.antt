@@ -84,9 +84,3 @@ module _ (cap : ℕ) where
       go : (b : Bool) → cond b 0 cap ≤ cap
       go true = omega arith
       go false = omega arith
-
--- over one place or more, the least value has a first place
-pub first-place : (f : ℕ → ℕ) (n : ℕ) → 0 < n → (r : ℕ) × FirstPlace f n r
-first-place f n h =
-    let (r, place, e) = lowest-first (suc (f 0)) f n (omega (arith, lowest-le (suc (f 0)) f n 0 h)) in
-    (r, place)

@@ -16,7 +16,6 @@ use crate::order::is_worth;
 use crate::order::named_at;
 use crate::order::used_in;
 use plan::child;
-use plan::length;
 use plan::length_count;
 use plan::split_by;
 use rows::one::Pair;
@@ -153,7 +152,7 @@ fn fill_length<'a>(
         let split = split_by(plan, l, arity);
         if split.arity != 0 {
             let h = split.part;
-            let len = length(plan, h);
+            let len = plan::length(plan, h);
             let j = (d.0 / len.0) as usize;
             fill_arity(plan, order, pairs, best, arity, h, j);
         }
@@ -214,7 +213,7 @@ fn fill_at<'a>(
         → FilledAt s (now (order .entry)) (now (rows .exit)) (now (pairs .exit)) (now (best .exit)) bar from l)
         ⌝ }
 {
-    let len = length(plan, l);
+    let len = plan::length(plan, l);
     let unit = units[from];
     let d = (unit - 20160 * (bar.number as u32)) % len.0;
     let left = unit - d;

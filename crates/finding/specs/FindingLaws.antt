@@ -3,7 +3,7 @@
 -- text neither is. What is handed back is valid, its figures are its own, and no valid tree totals less.
 use Prim.Native.Nat.{ℕ, zero, suc, _≤_, _<_}
 use mathlib.Core.Path.{_≡_, refl, sym, ap, subst, _∙_}
-use mathlib.Core.Bool.{Bool, true, false, false≢true}
+use mathlib.Core.Bool.{Bool, true, false}
 use mathlib.Core.List.{List, []}
 use mathlib.Core.Logic.{_⊎_, inl, inr}
 use mathlib.Core.Option.{some, Option·none-ne-some}
@@ -69,10 +69,6 @@ module _ (s : Sheet) (d : ℕ) (ok : Good d s) where
       go : (b : Bool) → hasTree s ≡ b → b ≡ false
       go true e = let t = some-tree e in absurd (h (t .0) (t .3 .valid .valid))
       go false e = refl
-
-  -- and nowhere else
-  pub no-valid-tree : hasTree s ≡ false → (bs : List ℕ) → ValidTree s bs → ⊥
-  no-valid-tree e bs v = false≢true (sym e ∙ has-tree bs v)
 
   -- no byte is no tree
   pub no-bytes : ValidTree s [] → ⊥

@@ -3,7 +3,6 @@ ghost use Prim.Native.Nat.{_≤_, _<_};
 use case_text::least;
 use case_text::wide;
 use expansions::Interval;
-use expansions::token_of;
 use sheet::Rule;
 use sheet::Units;
 
@@ -42,6 +41,14 @@ fn twice(n: u32) -> u64
     2 * (n as u64)
 }
 
+// n of the leaf rule where so many onsets are placed: the number itself up to 2, and 3 for three or more.
+fn kind_of(placed: usize) -> u8 {
+    if placed < 3 {
+        return placed as u8;
+    }
+    3
+}
+
 // The onsets inside an interval. Units never fall, so the first behind it ends the count.
 fn inside(units: &[u32; 513], over: Interval) -> Counts
     ensures { λ r. ⌜ (r .early ≤ 513) × (r .late ≤ 513) ⌝ }
@@ -75,7 +82,7 @@ fn leaf_move(units: &[u32; 513], over: Interval, n: u8, carried: u8) -> Move {
     if 3 < late {
         return Move::Refused;
     }
-    if n != token_of((carried as usize) + here.early) {
+    if n != kind_of((carried as usize) + here.early) {
         return Move::Refused;
     }
     Move::Leaf { late: late as u8 }
@@ -162,7 +169,7 @@ fn right_bound(over: Interval) -> Units {
 }
 
 // Puts the parts of rule r, k items of a length, before the others.
-fn with_parts(children: &[u8; 512], r: usize, k: u8, len: u32, p: Place) -> Place
+fn with_parts(children: &[u8; 512], r: usize, k: u8, len: Units, p: Place) -> Place
     requires { ⌜ r < 64 ⌝ }
 {
     let mut q = p;
@@ -172,7 +179,7 @@ fn with_parts(children: &[u8; 512], r: usize, k: u8, len: u32, p: Place) -> Plac
         let top = q.items;
         if top < 134 {
             q.names[top] = children[8 * r + j];
-            q.lens[top] = len;
+            q.lens[top] = len.0;
             q.items = top + 1;
         }
     }
@@ -200,7 +207,7 @@ pub fn place_behind(children: &[u8; 512], r: usize, m: Move, item: Item, p: Plac
             if k == 0 {
                 return q;
             }
-            with_parts(children, r, arity, over.len.0 / k, q)
+            with_parts(children, r, arity, Units(over.len.0 / k), q)
         }
     }
 }

@@ -29,7 +29,7 @@ use Rattle.plan.specs.Plan.{savedAt, savedBy}
 use Rattle.plan.specs.PlanLaws.{least-leaf-most, token-below}
 use Rattle.rows.specs.VectorLaws.{lowest-none}
 use Rattle.rows.specs.OnsetLaws.{largest-le}
-use Rattle.rows.specs.CellLaws.{leafTotal, token-small, leaf-no-division, totalBy, divisionBy, divisionTotal}
+use Rattle.rows.specs.CellLaws.{leafTotal, leaf-no-division, totalBy, divisionBy, divisionTotal}
 use Rattle.rows.specs.CellLaws.{cell-none, cell-split, total-none, total-some}
 
 -- ---- what a carry saves
@@ -46,10 +46,6 @@ saved-under s c m h =
 
 pub saved-most : (s : Sheet) (c : ℕ) → savedBy s c ≤ NONE
 saved-most s c = saved-under s c NONE (λ q e _. omega (arith, least-leaf-most s q e))
-
--- nothing where nothing is carried
-pub saved-none : (s : Sheet) → savedBy s 0 ≡ 0
-saved-none s = omega (arith, saved-under s 0 0 (λ q e b. rw (zero-add e, token-small e b) (omega arith)))
 
 token-many : (n : ℕ) → 3 ≤ n → token n ≡ 3
 token-many zero h = let none : ⊥ = omega arith in absurd none

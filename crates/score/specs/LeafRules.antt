@@ -7,8 +7,8 @@ use native.Mathlib.Omega.{arith}
 use lib.ListN.{length, length-append}
 use Rattle.sheet.specs.Sheet.{Rule, division, leaf, Onset, Sheet}
 use Rattle.derivations.specs.Derivation.{Item}
-use Rattle.trees.specs.ValidTrees.{Forest, written, writtenAll, ruleAt, late, Leaf, byLeaf, byDivision, ParsedAll, none, next, placedFrom}
-use Rattle.trees.specs.ValidTrees.{ValidTree}
+use Rattle.trees.specs.ValidTrees.{Forest, written, writtenAll, ruleAt, late, Leaf, byLeaf, byDivision}
+use Rattle.trees.specs.ValidTrees.{ParsedAll, emptyForest, nextTree, placedFrom, ValidTree}
 use Rattle.trees.specs.Leaves.{leavesOf, entriesOf, leaves-of}
 
 abbrev pub isLeaf : Option Rule → ℕ
@@ -56,8 +56,8 @@ module _ (s : Sheet) where
       elim p as (λ t g ls q. leafRules s (written t) ≡ length ls) (λ ts gs ls q. leafRules s (writtenAll ts) ≡ length ls) [
         | byLeaf r h w n g e f ↦ omega (arith, leaf-counts r h w n e)
         | byDivision r h w ks g ts ls e f d (q → ih) ↦ omega (arith, division-counts r h w ks e, ih)
-        | none ↦ refl
-        | next t g ls ts gs ms (q → ih) (qs → ihs) ↦
+        | emptyForest ↦ refl
+        | nextTree t g ls ts gs ms (q → ih) (qs → ihs) ↦
             omega (arith, leaf-rules-append (written t) (writtenAll ts), length-append ls ms, ih, ihs)
       ]
 

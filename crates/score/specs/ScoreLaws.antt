@@ -2,7 +2,7 @@
 -- the text of a valid tree has two bytes for each onset.
 use Prim.Native.Nat.{ℕ, zero, suc, _+_, _*_, _/_, _%_}
 use mathlib.Core.Path.{_≡_, refl, ap}
-use mathlib.Core.List.{List, [], _∷_, _++_, append-assoc}
+use mathlib.Core.List.{List, [], _∷_}
 use native.Mathlib.Omega.{arith}
 use lib.ListN.{length, length-append, length-map}
 use Rattle.hextext.specs.Written.{lineText}
@@ -37,12 +37,6 @@ length-head bars total R D = omega (arith, length-line (headLine bars total R D)
 
 pub length-leaf : (e : Entry) → length (lineText (leafLine e)) ≡ 19 + 2 * length (e .placed)
 length-leaf e = omega (arith, length-line (leafLine e), leaf-line-bytes e)
-
--- the lines of leaves in two parts
-pub leaf-lines-append : (es fs : List Entry) → leafLines (es ++ fs) ≡ leafLines es ++ leafLines fs
-unfolding leafLines
-leaf-lines-append [] fs = refl
-leaf-lines-append (e ∷ es) fs = rw append-assoc (ap (lineText (leafLine e) ++_) (leaf-lines-append es fs))
 
 pub length-leaf-lines : (es : List Entry) → length (leafLines es) ≡ 19 * length es + 2 * length (allPlaced es)
 unfolding leafLines allPlaced

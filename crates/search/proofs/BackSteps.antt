@@ -20,12 +20,6 @@ use Rattle.search.proofs.PassSteps.{length-stored, root-cells-low, tota
 -- ---- `before`
 
 module _ {s : Sheet} {roots : List ℕ} {e b : ℕ} {v : List ℕ} (h : BeforeEntry s roots e b v) where
-  pub before-few : b < 64
-  before-few = omega (arith, h .bar-in, h .end-in, h .few)
-
-  pub before-room : 16 * b + 16 ≤ length roots
-  before-room = omega (arith, h .bar-in, h .end-in, h .roots-are .size)
-
   module _ (c : ℕ) (hc : c < carries) (i : ℕ) (ei : i ≡ 4 * (4 * b + c)) {y t : List ℕ} (ey : y ≡ rowAt roots i) (et : t ≡ totalsOf y) where
     abbrev row : List ℕ
     row = rowAt roots (4 * (4 * b + c))

@@ -108,20 +108,13 @@ pub struct LengthTable {
     pub cells: [u32; 84],
 }
 
-// The length at a place.
-pub fn length_at(l: LengthTable, i: usize) -> Units
-    requires { ⌜ i < 84 ⌝ }
-    ensures { λ r. ⌜ r .0 ≡ getD (l .cells) i 0 ⌝ }
-{
-    Units(l.cells[i])
-}
-
 // The divisor of 20,160 at a place.
-fn divisor(j: usize) -> u32
+fn divisor(j: usize) -> Units
     requires { ⌜ j < 84 ⌝ }
-    ensures { λ r. ⌜ r ≡ getD divisors j 0 ⌝ }
+    ensures { λ r. ⌜ r .0 ≡ getD divisors j 0 ⌝ }
 {
-    DIVISORS[j]
+    let d = DIVISORS[j];
+    Units(d)
 }
 
 // For each k up to 8 whether some division has k parts.
@@ -157,15 +150,15 @@ fn arities(g: GrammarTable) -> [bool; 9]
 }
 
 // Whether x is among the first `count` cells.
-fn among(cells: &[u32; 84], count: usize, x: u32) -> bool
+fn among(cells: &[u32; 84], count: usize, x: Units) -> bool
     requires { ⌜ count ≤ 84 ⌝ }
-    ensures { λ r. ⌜ ((xs : List ℕ) → length xs ≡ count → now (cells .entry) ≡ pad 84 0 xs → r ≡ member x xs) ⌝ }
+    ensures { λ r. ⌜ ((xs : List ℕ) → length xs ≡ count → now (cells .entry) ≡ pad 84 0 xs → r ≡ member (x .0) xs) ⌝ }
 {
     let mut i: usize = 0;
     while i < count {
         let y = cells[i];
         i += 1;
-        if x == y {
+        if x.0 == y {
             return true;
         }
     }
@@ -173,21 +166,21 @@ fn among(cells: &[u32; 84], count: usize, x: u32) -> bool
 }
 
 // Whether d is the whole bar, or some arity times d is among the first `count` cells.
-fn is_reached(flags: [bool; 9], cells: &[u32; 84], count: usize, d: u32) -> bool
-    requires { ⌜ (count ≤ 84) × (d ≤ 20160) ⌝ }
-    ensures { λ r. ⌜ ReachedOf flags (now (cells .entry)) count d r ⌝ }
+fn is_reached(flags: [bool; 9], cells: &[u32; 84], count: usize, d: Units) -> bool
+    requires { ⌜ (count ≤ 84) × (d .0 ≤ 20160) ⌝ }
+    ensures { λ r. ⌜ ReachedOf flags (now (cells .entry)) count (d .0) r ⌝ }
 {
-    if d == 20160 {
+    if d.0 == 20160 {
         return true;
     }
     let mut k: usize = 2;
-    let mut x = d;
+    let mut x = d.0;
     while k < 9 {
         let used = flags[k];
-        x += d;
+        x += d.0;
         k += 1;
         if used {
-            if among(cells, count, x) {
+            if among(cells, count, Units(x)) {
                 return true;
             }
         }
@@ -208,7 +201,7 @@ pub fn lengths(g: GrammarTable) -> LengthTable
         let d = divisor(j);
         j += 1;
         if is_reached(flags, &cells, count, d) {
-            cells[count] = d;
+            cells[count] = d.0;
             count += 1;
         }
     }

@@ -6,7 +6,7 @@ use mathlib.Core.List.{List, [], _∷_, _++_, map, map-append, append-nil}
 use native.Mathlib.Omega.{arith}
 use lib.ListN.{length, getD, take, drop, set, replicate, length-drop, length-map, length-replicate}
 use lib.Seq.{take-append-le, drop-append-le}
-use Rattle.slices.specs.Over.{over, overFrom, over-nil, over-more, over-full, over-append, length-over}
+use Rattle.slices.specs.Over.{over, overFrom, over-nil, over-more, over-append, length-over}
 
 module _ {A : Type 0} where
   unfoldable pub pad : ℕ → A → List A → List A
@@ -34,11 +34,6 @@ module _ {A : Type 0} where
       → set xs k a ≡ pad n z (l ++ (a ∷ []))
   unfolding pad
   pad-more n z l xs k a e q h = rw (e, ← q) (over-more l (replicate n z) a (rw length-replicate (omega arith)))
-
-  -- one element more, where there is no place
-  pub pad-full : (n : ℕ) (z : A) (l : List A) (a : A) → n ≤ length l → pad n z l ≡ pad n z (l ++ (a ∷ []))
-  unfolding pad
-  pad-full n z l a h = over-full l (replicate n z) a (rw length-replicate h)
 
   -- a place of the array, and of the list, past whose end z is read
   pub getD-pad : (n : ℕ) (z : A) (l : List A) (i : ℕ) → i < n → getD (pad n z l) i z ≡ getD l i z

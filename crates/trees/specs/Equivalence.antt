@@ -8,8 +8,8 @@ use native.Mathlib.Nat.{zero-add, suc-ne-zero}
 use lib.ListN.{length, length-append}
 use Rattle.sheet.specs.Sheet.{division, leaf, Onset, Sheet}
 use Rattle.derivations.specs.Derivation.{Item, Expansion, Price, derive, unspent, price-eq, cons-derive, derive-append}
-use Rattle.trees.specs.ValidTrees.{Forest, Tree, written, writtenAll, early, row, bars, ruleAt, mayDivide, Leaf, byLeaf}
-use Rattle.trees.specs.ValidTrees.{byDivision, ParsedAll, none, next, placedFrom, carriedOut, ValidTree, ruleWeight, Priced}
+use Rattle.trees.specs.ValidTrees.{Forest, Tree, written, writtenAll, early, row, bars, ruleAt, mayDivide, Leaf, byLeaf, byDivision}
+use Rattle.trees.specs.ValidTrees.{ParsedAll, emptyForest, nextTree, placedFrom, carriedOut, ValidTree, ruleWeight, Priced}
 use Rattle.trees.specs.Instance.{atLeaf, atDivision, instanceOf, Derived}
 use Rattle.trees.specs.Expansions.{LeafStep, DivisionStep, leaf-expands, division-expands}
 use Rattle.trees.specs.Placing.{ownDistances, distance-own}
@@ -71,8 +71,8 @@ module _ (s : Sheet) where
       elim p as (λ t g ls q. TreeDerived t g ls) (λ ts gs ls q. ForestDerived ts gs ls) [
         | byLeaf r h w n g e f ↦ leaf-derived r h w n g e f
         | byDivision r h w ks g ts ls e f d (q → ih) ↦ λ cs fit. division-derived r h w ks g (writtenAll ts) ls e f d cs (ih cs fit)
-        | none ↦ λ cs fit. none-derived cs
-        | next t g ls ts gs ms (q → ih) (qs → ihs) ↦ λ cs fit.
+        | emptyForest ↦ λ cs fit. none-derived cs
+        | nextTree t g ls ts gs ms (q → ih) (qs → ihs) ↦ λ cs fit.
             let (f₁, f₂) = fits-split s cs ls ms fit in
             derive-append (instanceOf s) (written t) (writtenAll ts) (g ∷ []) gs (length cs) _ _ (ih cs f₁) (ihs (carriedOut s cs ls) f₂)
             ∙ ap some (price-append s cs ls ms (written t) (writtenAll ts))

@@ -13,8 +13,8 @@ use Rattle.slices.specs.Every.{Every, every-append}
 use Rattle.sheet.specs.Sheet.{Onset, Sheet, barUnits, barOf, inBar}
 use Rattle.sheet.specs.Good.{GoodOnsets}
 use Rattle.derivations.specs.Derivation.{Item}
-use Rattle.trees.specs.ValidTrees.{Forest, whose, contains, inside, early, late, bars, Leaf, byLeaf, byDivision, ParsedAll, none}
-use Rattle.trees.specs.ValidTrees.{next, Entry, placedFrom, FewLate, ValidTree}
+use Rattle.trees.specs.ValidTrees.{Forest, whose, contains, inside, early, late, bars, Leaf, byLeaf, byDivision}
+use Rattle.trees.specs.ValidTrees.{ParsedAll, emptyForest, nextTree, Entry, placedFrom, FewLate, ValidTree}
 use Rattle.trees.specs.Instance.{onsetsIn, earlyCount}
 use Rattle.trees.specs.Expansions.{may-divide, parts-whole}
 use Rattle.trees.specs.Onsets.{contains-bounds, early-late}
@@ -87,8 +87,8 @@ module _ (s : Sheet) where
             let k = length ks in
             ih (row-every (ItemInOneBar s) (g .left) (g .len / k) ks
             (λ j x i. part-in-bar g k j x a (may-divide s k (g .left) (g .len) d .0) i))
-        | none ↦ λ a. tt
-        | next t g ls ts gs ms (q → ih) (qs → ihs) ↦ λ a. every-append (LeafInOneBar s) ls ms (ih (a .0)) (ihs (a .1))
+        | emptyForest ↦ λ a. tt
+        | nextTree t g ls ts gs ms (q → ih) (qs → ihs) ↦ λ a. every-append (LeafInOneBar s) ls ms (ih (a .0)) (ihs (a .1))
       ]
 
   bars-in-bars : Every (ItemInOneBar s) (bars s)

@@ -9,8 +9,8 @@ use Rattle.slices.specs.Every.{Every}
 use Rattle.sheet.specs.Sheet.{division, leaf, Sheet}
 use Rattle.sheet.specs.Good.{GoodOnsets}
 use Rattle.derivations.specs.Derivation.{Item}
-use Rattle.trees.specs.ValidTrees.{Forest, written, writtenAll, row, bars, ruleAt, Leaf, byLeaf, byDivision, ParsedAll, none, next}
-use Rattle.trees.specs.ValidTrees.{Entry, entries, KindFits, ValidTree}
+use Rattle.trees.specs.ValidTrees.{Forest, written, writtenAll, row, bars, ruleAt, Leaf, byLeaf, byDivision}
+use Rattle.trees.specs.ValidTrees.{ParsedAll, emptyForest, nextTree, Entry, entries, KindFits, ValidTree}
 use Rattle.trees.specs.Placing.{allPlaced, each-placed-once}
 
 -- the leaf at an item, under a rule of this n
@@ -86,8 +86,8 @@ module _ (s : Sheet) where
       (λ ts gs ls q. (xs : List ℕ) → LeavesRead gs (writtenAll ts ++ xs) xs ls) [
         | byLeaf r h w n g e f ↦ λ xs. leaves-leaf g r h w n xs e
         | byDivision r h w ks g ts ls e f d (q → ih) ↦ λ xs. leaves-division g r h w ks (writtenAll ts ++ xs) xs ls e (ih xs)
-        | none ↦ λ xs. leaves-nil xs
-        | next t g ls ts gs ms (q → ih) (qs → ihs) ↦ λ xs.
+        | emptyForest ↦ λ xs. leaves-nil xs
+        | nextTree t g ls ts gs ms (q → ih) (qs → ihs) ↦ λ xs.
             rw append-assoc (leaves-append (g ∷ []) gs _ (writtenAll ts ++ xs) xs ls ms (ih (writtenAll ts ++ xs)) (ihs xs))
       ]
 

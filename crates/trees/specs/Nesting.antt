@@ -7,7 +7,7 @@ use Rattle.slices.specs.Every.{Every}
 use Rattle.sheet.specs.Sheet.{Sheet, barUnits}
 use Rattle.sheet.specs.Good.{GoodRules}
 use Rattle.derivations.specs.Derivation.{Item}
-use Rattle.trees.specs.ValidTrees.{Tree, Forest, node, nil, cons, bars, Leaf, byLeaf, byDivision, ParsedAll, none, next}
+use Rattle.trees.specs.ValidTrees.{Tree, Forest, node, nil, cons, bars, Leaf, byLeaf, byDivision, ParsedAll, emptyForest, nextTree}
 use Rattle.trees.specs.ValidTrees.{ValidTree}
 use Rattle.trees.specs.Depth.{depth, depth-bar}
 use Rattle.trees.specs.Room.{division-deep}
@@ -43,8 +43,8 @@ module _ (s : Sheet) (good : GoodRules (s .grammar)) where
         | byDivision r h w ks g ts ls e f d (q → ih) ↦
             let below = ih (depth (g .len / length ks)) (row-every _ (g .left) (g .len / length ks) ks (λ j c i. omega arith)) in
             omega (arith, below, under-most ts (nestingAll ts), division-deep s good r h w ks (g .left) (g .len) e d)
-        | none ↦ λ n every. omega arith
-        | next t g ls ts gs ms (q → ih) (qs → ihs) ↦ λ n every. omega (arith, ih, ihs n (every .1), every .0)
+        | emptyForest ↦ λ n every. omega arith
+        | nextTree t g ls ts gs ms (q → ih) (qs → ihs) ↦ λ n every. omega (arith, ih, ihs n (every .1), every .0)
       ]
 
   pub at-most-ten-nest : (bs : List ℕ) (v : ValidTree s bs) → nestingAll (v .trees) ≤ 10

@@ -9,7 +9,7 @@ use lib.ListN.{length}
 use Rattle.sheet.specs.Sheet.{Rule, division, leaf, Sheet}
 use Rattle.derivations.specs.Derivation.{Item}
 use Rattle.trees.specs.ValidTrees.{Forest, Tree, node, cons, nil, written, writtenAll, row, ruleAt, Leaf, Parsed, byLeaf}
-use Rattle.trees.specs.ValidTrees.{byDivision, ParsedAll, none, next, entries, ValidTree, distanceOf, Priced}
+use Rattle.trees.specs.ValidTrees.{byDivision, ParsedAll, emptyForest, nextTree, entries, ValidTree, distanceOf, Priced}
 
 -- two trees or forests are equal, and so are their leaves, and what is written after them
 abbrev pub Same : {A : Type 0} → (a b : A) (ls ms : List Leaf) (xs ys : List ℕ) → Type 0
@@ -57,12 +57,12 @@ module _ (s : Sheet) where
 
   one-none : OneForest nil [] []
   unfolding written
-  one-none us ms none xs ys k = (refl, refl, k)
+  one-none us ms emptyForest xs ys k = (refl, refl, k)
 
   one-next : (t : Tree) (g : Item) (ls : List Leaf) (ts : Forest) (gs : List Item) (ms : List Leaf) → OneTree t g ls
       → OneForest ts gs ms → OneForest (cons t ts) (g ∷ gs) (ls ++ ms)
   unfolding written
-  one-next t g ls ts gs ms ih ihs us ns (next u g₂ ls₂ vs gs₂ ms₂ q qs) xs ys k =
+  one-next t g ls ts gs ms ih ihs us ns (nextTree u g₂ ls₂ vs gs₂ ms₂ q qs) xs ys k =
       let (t₁, l₁, x₁) = ih u ls₂ q (writtenAll ts ++ xs) (writtenAll vs ++ ys) (simp append-assoc at k) in
       let (t₂, l₂, x₂) = ihs vs ms₂ qs xs ys x₁ in
       (ap₂ cons t₁ t₂, ap₂ _++_ l₁ l₂, x₂)
@@ -72,8 +72,8 @@ module _ (s : Sheet) where
       elim p as (λ t g ls q. OneTree t g ls) (λ ts gs ls q. OneForest ts gs ls) [
         | byLeaf r h w n g e f ↦ one-leaf r h w n g e
         | byDivision r h w ks g ts ls e f d (q → ih) ↦ one-division r h w ks g ts ls e ih
-        | none ↦ one-none
-        | next t g ls ts gs ms (q → ih) (qs → ihs) ↦ one-next t g ls ts gs ms ih ihs
+        | emptyForest ↦ one-none
+        | nextTree t g ls ts gs ms (q → ih) (qs → ihs) ↦ one-next t g ls ts gs ms ih ihs
       ]
 
   -- a list has one reading

@@ -9,8 +9,8 @@ use lib.ListN.{length, replicate, length-replicate}
 use Rattle.sheet.specs.Sheet.{Onset, Sheet, barUnits}
 use Rattle.sheet.specs.Good.{Rising, GoodOnsets}
 use Rattle.derivations.specs.Derivation.{Item}
-use Rattle.trees.specs.ValidTrees.{Forest, whose, early, late, row, bars, mayDivide, Leaf, byLeaf, byDivision, ParsedAll, none, next}
-use Rattle.trees.specs.ValidTrees.{Entry, placedFrom, carriedOut, entries, ValidTree, distanceTo, distanceOf}
+use Rattle.trees.specs.ValidTrees.{Forest, whose, early, late, row, bars, mayDivide, Leaf, byLeaf, byDivision}
+use Rattle.trees.specs.ValidTrees.{ParsedAll, emptyForest, nextTree, Entry, placedFrom, carriedOut, entries, ValidTree, distanceTo, distanceOf}
 use Rattle.trees.specs.Instance.{ownDistance}
 use Rattle.trees.specs.Expansions.{may-divide, parts-whole}
 use Rattle.trees.specs.Order.{within, within-append, within-none, within-all, early-then-late}
@@ -58,8 +58,8 @@ forest-adjoins s p =
     (λ ts gs ls q. (left right : ℕ) → ItemsAdjoin left gs right → LeavesAdjoin left ls right) [
       | byLeaf r h w n g e f ↦ (refl, refl)
       | byDivision r h w ks g ts ls e f d (q → ih) ↦ ih (g .left) (g .left + g .len) (parts-adjoin s (g .left) (g .len) ks d)
-      | none ↦ λ left right a. a
-      | next t g ls ts gs ms (q → ih) (qs → ihs) ↦ λ left right a.
+      | emptyForest ↦ λ left right a. a
+      | nextTree t g ls ts gs ms (q → ih) (qs → ihs) ↦ λ left right a.
           adjoin-append (λ l. l .left) (λ l. l .len) left (left + g .len) right ls ms
           (subst (λ x. LeavesAdjoin x ls (x + g .len)) (a .0) ih) (ihs (left + g .len) right (a .1))
     ]

@@ -9,7 +9,7 @@ use lib.ListN.{length, length-append}
 use Rattle.sheet.specs.Sheet.{Onset, Sheet}
 use Rattle.derivations.specs.Derivation.{Item, Expansion, Price, derive, priceOf, _⊞_, unspent, price-eq, derive-rec}
 use Rattle.trees.specs.ValidTrees.{Forest, node, cons, nil, written, writtenAll, early, late, row, token, Leaf}
-use Rattle.trees.specs.ValidTrees.{byLeaf, byDivision, ParsedAll, none, next, placedFrom, carriedOut, ruleWeight}
+use Rattle.trees.specs.ValidTrees.{byLeaf, byDivision, ParsedAll, emptyForest, nextTree, placedFrom, carriedOut, ruleWeight}
 use Rattle.trees.specs.Instance.{atLeaf, atDivision, instanceOf}
 use Rattle.trees.specs.Expansions.{LeafStep, DivisionStep, Step, step-of}
 use Rattle.trees.specs.Placing.{ownDistances}
@@ -30,8 +30,8 @@ forest-split : (s : Sheet) (ts : Forest) (g₁ g₂ : List Item) (ls : List Leaf
     → Split s g₁ g₂ (writtenAll ts) ls
 unfolding writtenAll
 forest-split s ts [] g₂ ls p =
-    record { first = nil; rest = ts; leaves₁ = []; leaves₂ = ls; parsed₁ = none; parsed₂ = p; writing = refl; in-order = refl }
-forest-split s ts (g ∷ g₁) g₂ ls (next t h ks us gs ms q qs) = go (forest-split s us g₁ g₂ ms qs)
+    record { first = nil; rest = ts; leaves₁ = []; leaves₂ = ls; parsed₁ = emptyForest; parsed₂ = p; writing = refl; in-order = refl }
+forest-split s ts (g ∷ g₁) g₂ ls (nextTree t h ks us gs ms q qs) = go (forest-split s us g₁ g₂ ms qs)
   where
     go : Split s g₁ g₂ (writtenAll us) ms → Split s (h ∷ g₁) g₂ (writtenAll (cons t us)) (ks ++ ms)
     go d =
@@ -40,7 +40,7 @@ forest-split s ts (g ∷ g₁) g₂ ls (next t h ks us gs ms q qs) = go (forest-
           rest = d .rest;
           leaves₁ = ks ++ d .leaves₁;
           leaves₂ = d .leaves₂;
-          parsed₁ = next t h ks (d .first) g₁ (d .leaves₁) q (d .parsed₁);
+          parsed₁ = nextTree t h ks (d .first) g₁ (d .leaves₁) q (d .parsed₁);
           parsed₂ = d .parsed₂;
           writing = append-assoc (written t) (writtenAll (d .first)) (writtenAll (d .rest)) ∙ ap (written t ++_) (d .writing);
           in-order = append-assoc ks (d .leaves₁) (d .leaves₂) ∙ ap (ks ++_) (d .in-order);
@@ -66,7 +66,7 @@ module _ (s : Sheet) where
       record {
         trees = nil;
         leaves = [];
-        parsed = none;
+        parsed = emptyForest;
         writing = refl;
         fits = record { few-late = tt; kinds-fit = tt };
         comes-to = price-eq _ _ (sym e) refl refl;
@@ -94,7 +94,7 @@ module _ (s : Sheet) where
             record {
               trees = cons (node r nil) (d .trees);
               leaves = here ∷ d .leaves;
-              parsed = next (node r nil) g (here ∷ []) (d .trees) gs (d .leaves) tree (d .parsed);
+              parsed = nextTree (node r nil) g (here ∷ []) (d .trees) gs (d .leaves) tree (d .parsed);
               writing = ap (r ∷_) (d .writing);
               fits = record { few-late = (l .few-late, d .fits .few-late); kinds-fit = (kind, d .fits .kinds-fit) };
               comes-to = ap (priceOf (instanceOf s .weight r) (atLeaf s g) ⊞_) (d .comes-to);
@@ -117,7 +117,7 @@ module _ (s : Sheet) where
             record {
               trees = cons (node r ts) (f .rest);
               leaves = d .leaves;
-              parsed = rw (← f .in-order) (next (node r ts) g (f .leaves₁) (f .rest) gs (f .leaves₂) tree (f .parsed₂));
+              parsed = rw (← f .in-order) (nextTree (node r ts) g (f .leaves₁) (f .rest) gs (f .leaves₂) tree (f .parsed₂));
               writing = ap (r ∷_) (f .writing ∙ d .writing);
               fits = d .fits;
               comes-to = ap (price ⊞_) (d .comes-to) ∙ price-eq _ _ refl refl (zero-add _);

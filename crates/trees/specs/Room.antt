@@ -123,7 +123,7 @@ module _ (s : Sheet) where
       )
 
   -- A stretch: items in a row with no more room and reach than 64 bars with 512 onsets have. The bars are one, and so are the items that
-  -- are left at any moment of a derivation from the bars, and any front and any back of them: all that a tree's part can be read against.
+  -- are left at any moment of a derivation from the bars, and any front of them: all that a tree's part can be read against.
   pub record Stretch (gs : List Item) : Type 0 where
     pub nodes : sumOf room gs ≤ 41024
     pub distances : sumOf reach gs ≤ 10321920
@@ -137,10 +137,6 @@ module _ (s : Sheet) where
 
   pub stretch-front : (gs hs : List Item) → Stretch (gs ++ hs) → Stretch gs
   stretch-front gs hs t =
-      record { nodes = omega (arith, sum-append room gs hs, t .nodes); distances = omega (arith, sum-append reach gs hs, t .distances) }
-
-  pub stretch-back : (gs hs : List Item) → Stretch (gs ++ hs) → Stretch hs
-  stretch-back gs hs t =
       record { nodes = omega (arith, sum-append room gs hs, t .nodes); distances = omega (arith, sum-append reach gs hs, t .distances) }
 
   pub stretch-expands : GoodRules (s .grammar) → (g : Item) (gs : List Item) (c r : ℕ) (m : Expansion) → instanceOf s .expand g c r ≡ some m

@@ -89,8 +89,8 @@ mutual
         → ParsedAll s ts (row (g .left) (g .len / length ks) ks) ls → Parsed s (node r ts) g ls
 
   pub data ParsedAll (s : Sheet) : Forest → List Item → List Leaf → Type 0 where
-    none : ParsedAll s nil [] []
-    next : (t : Tree) (g : Item) (ls : List Leaf) (ts : Forest) (gs : List Item) (ms : List Leaf) → Parsed s t g ls
+    emptyForest : ParsedAll s nil [] []
+    nextTree : (t : Tree) (g : Item) (ls : List Leaf) (ts : Forest) (gs : List Item) (ms : List Leaf) → Parsed s t g ls
         → ParsedAll s ts gs ms → ParsedAll s (cons t ts) (g ∷ gs) (ls ++ ms)
 
 -- The token kinds: "0 is a continuation, 1 a note, 2 and 3 grace notes with a note" (000, Example 4; 001, Section 3.1: n - 1 grace notes)

@@ -9,7 +9,7 @@ use Rattle.sizes.proofs.among.Statement.{statement}
 use Rattle.sizes.proofs.among.Tie as tie
 
 abbrev Inv-loop : tie.InvT-loop
-Inv-loop cells count x i₀ i = (i ≤ count) × FromPlace cells count x i
+Inv-loop cells count x i₀ i = (i ≤ count) × FromPlace cells count (x .0) i
 
 abbrev μ-loop : tie.MeasureT-loop
 μ-loop cells count x i₀ i = count - i
@@ -28,7 +28,7 @@ add-i c = search needs
 
 returns : tie.Need-returns Inv-loop μ-loop
 returns c =
-    let l = c .before .before .before in
+    let l = c .before .before .before .before in
     among-here _ _ _ _ (l .loop .inv .1) (omega arith) (omega arith) (c .if1 .taken)
 
 loop-less : tie.Need-loop-less Inv-loop μ-loop
@@ -36,7 +36,7 @@ loop-less c = search needs
 
 loop-again : tie.Need-loop-again Inv-loop μ-loop
 loop-again c =
-    let l = c .before .before .before in
+    let l = c .before .before .before .before in
     (search needs, among-past _ _ _ _ (l .loop .inv .1) (omega arith) (omega arith) (c .if1 .left))
 
 returns-2 : tie.Need-returns-2 Inv-loop μ-loop

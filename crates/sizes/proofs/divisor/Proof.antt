@@ -6,15 +6,15 @@ use Rattle.sizes.specs.Sizes.{divisors}
 use Rattle.sizes.proofs.divisor.Statement.{statement}
 use Rattle.sizes.proofs.divisor.Tie as tie
 
-mul-result : tie.Need-mul-result
-mul-result c = search needs
+mul-d : tie.Need-mul-d
+mul-d c = search needs
 
-array-read-result : tie.Need-array-read-result
-array-read-result c = search needs
+array-read-d : tie.Need-array-read-d
+array-read-d c = search needs
 
 returns : tie.Need-returns
 unfolding divisors
 returns c = refl
 
 pub divisor-spec : {M : Type 1} → statement M
-divisor-spec = tie.close (tie.spec mul-result array-read-result returns)
+divisor-spec = tie.close (tie.spec mul-d array-read-d returns)

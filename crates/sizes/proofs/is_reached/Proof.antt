@@ -10,7 +10,7 @@ use Rattle.sizes.proofs.is_reached.Statement.{statement}
 use Rattle.sizes.proofs.is_reached.Tie as tie
 
 abbrev Inv-loop : tie.InvT-loop
-Inv-loop cells count d flags k₀ x₀ k x = (2 ≤ k) × (k ≤ 9) × (x + d ≡ k * d) × NoneBelow flags cells count d k
+Inv-loop cells count d flags k₀ x₀ k x = (2 ≤ k) × (k ≤ 9) × (x + d .0 ≡ k * d .0) × NoneBelow flags cells count (d .0) k
 
 abbrev μ-loop : tie.MeasureT-loop
 μ-loop cells count d flags k₀ x₀ k x = 9 - k
@@ -26,8 +26,8 @@ array-read-used c = search needs
 
 add-x : tie.Need-add-x Inv-loop μ-loop
 add-x c =
-    let l = c .before in
-    omega (arith, times-small (l .loop .k) (l .before .before .args .d) (omega arith) (omega arith))
+    let l = c .before .before in
+    omega (arith, times-small (l .loop .k) (l .before .before .before .args .d .0) (omega arith) (omega arith))
 
 add-k : tie.Need-add-k Inv-loop μ-loop
 add-k c = search needs
@@ -38,7 +38,7 @@ among-requires c κs = search needs
 returns-2 : tie.Need-returns-2 Inv-loop μ-loop
 returns-2 c =
     let used = c .before .before in
-    let l = used .before .before in
+    let l = used .before .before .before in
     λ h xs f n e.
     reached-found _ _ _ _ (l .loop .k) (l .loop .inv .3) (omega arith) (omega arith) _ _ (l .loop .inv .2) (c .before .among .ensures)
     (used .if2 .taken) (c .if3 .taken) (h .rules) xs (record { flags-of = f; counted = n; held = e })
@@ -48,7 +48,7 @@ loop-less c = search needs
 
 loop-again : tie.Need-loop-again Inv-loop μ-loop
 loop-again c =
-    let l = c .before .before .before .before in (
+    let l = c .before .before .before .before .before in (
       search needs,
       search needs,
       times-more (l .loop .k) _ (l .loop .inv .2),
@@ -60,7 +60,7 @@ loop-less-2 c = search needs
 
 loop-again-2 : tie.Need-loop-again-2 Inv-loop μ-loop
 loop-again-2 c =
-    let l = c .before .before in (
+    let l = c .before .before .before in (
       search needs,
       search needs,
       times-more (l .loop .k) _ (l .loop .inv .2),
