@@ -32,12 +32,12 @@ fn print_onsets(p: PlayingTable) {
 fn print_outcome(r: Reading) {
     let grammar = r.grammar;
     let playing = r.playing;
-    let duration = r.duration;
+    let timing = r.timing;
     print(
         b"\n  number, line, duration",
         r.number as u64,
         r.line as u64,
-        duration.0 as u64,
+        timing.duration.0 as u64,
     );
     print(
         b"; nonterminals, start, multiplier",
