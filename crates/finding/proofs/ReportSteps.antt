@@ -19,7 +19,8 @@ use Rattle.trees.specs.Theorems.{nodes-most}
 use Rattle.pricing.specs.declared.Priced.{Priced}
 use Rattle.pricing.specs.PricingLaws.{tree-priced}
 use Rattle.score.specs.declared.Written.{Written}
-use Rattle.score.specs.Score.{bigEndian, scoreText}
+use Rattle.hextext.specs.Fields.{bigEndian}
+use Rattle.score.specs.Score.{scoreText}
 use Rattle.score.specs.Writing as writing
 use Rattle.score.specs.Writing.{written, noRoom, textWithin, writePriced, writeSheet, writeRead, writeText, writtenOf, scoreAfter}
 use Rattle.finding.specs.declared.Shown.{Shown}

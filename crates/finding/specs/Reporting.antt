@@ -12,7 +12,8 @@ use Rattle.sheet.specs.Sheet.{Sheet}
 use Rattle.trees.specs.ValidTrees.{totalOf}
 use Rattle.trees.specs.Found.{LeastTree}
 use Rattle.trees.specs.Leaves.{entriesOf}
-use Rattle.score.specs.Score.{bigEndian, scoreText}
+use Rattle.hextext.specs.Fields.{bigEndian}
+use Rattle.score.specs.Score.{scoreText}
 use Rattle.finding.specs.declared.Shown.{Shown}
 use Rattle.finding.specs.declared.Shown.the-variants.{Score, Line}
 use Rattle.finding.specs.Finding.{Outcome, refusal, noTree, found, findText, cleared}

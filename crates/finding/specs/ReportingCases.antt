@@ -20,7 +20,8 @@ use Rattle.trees.specs.LeastTotal.{leastTotal}
 use Rattle.trees.specs.Leaves.{leavesFrom, entriesOf}
 use Rattle.trees.specs.Found.{LeastTree}
 use Rattle.pricing.specs.Pricing.{priceSheet}
-use Rattle.score.specs.Score.{bigEndian, headLine, leafLine, leafLines, scoreText}
+use Rattle.hextext.specs.Fields.{bigEndian}
+use Rattle.score.specs.Score.{headLine, leafLine, leafLines, scoreText}
 use Rattle.score.specs.Cases.{linesOfS}
 use Rattle.finding.specs.declared.Shown.{Shown}
 use Rattle.finding.specs.Finding.{hasTree, Outcome, found, findText}

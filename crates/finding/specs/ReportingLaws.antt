@@ -8,8 +8,7 @@ use native.Mathlib.Omega.{arith}
 use borrow.Author.Tests.{le-leb, lt-leb}
 use lib.ListN.{length}
 use Rattle.hextext.specs.Laws.{length-line}
-use Rattle.score.specs.Score.{bigEndian}
-use Rattle.score.specs.ScoreLaws.{length-big-endian}
+use Rattle.hextext.specs.Fields.{bigEndian, length-big-endian}
 use Rattle.slices.specs.Over.{length-over, take-over}
 use Rattle.finding.specs.declared.Shown.{Shown}
 use Rattle.finding.specs.declared.Shown.the-variants.{Score, Line}

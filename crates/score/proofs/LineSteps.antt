@@ -1,31 +1,16 @@
 -- The bytes of score lines, put into an array field by field.
-use Prim.Native.Nat.{ℕ, suc, _+_, _-_, _/_, _%_, _≤_, _<_}
-use mathlib.Core.Path.{_≡_, refl, sym, ap, subst, _∙_}
+use Prim.Native.Nat.{ℕ, _+_, _-_, _≤_, _<_}
+use mathlib.Core.Path.{_≡_, refl, sym, ap, _∙_}
 use mathlib.Core.List.{List, [], _∷_, _++_, append-assoc, append-nil}
 use native.Mathlib.Omega.{arith}
 use native.Mathlib.Numerals.{add-one}
 use lib.ListN.{length, getD, take, drop, set, replicate, length-append, length-drop}
 use lib.Seq.{take-suc, getD-drop, length-take-le}
-use Rattle.slices.specs.Over.{overFrom, over-from-nil, over-from-last}
+use Rattle.slices.specs.Over.{overFrom}
 use Rattle.slices.specs.Pad.{pad, pad-nil, pad-more, pad-over, pad-whole}
-use Rattle.score.specs.Score.{bigEndian, headLine}
-use Rattle.score.specs.ScoreLaws.{length-big-endian}
+use Rattle.hextext.specs.Fields.{bigEndian, length-big-endian}
+use Rattle.score.specs.Score.{headLine}
 use Rattle.score.specs.Steps.{frontOf, lineOf, LineHeld}
-
--- ---- a number, from its last byte to its first
-
-pub field-more : (line : List ℕ) (at x n m : ℕ) → n ≡ suc m
-    → overFrom at (bigEndian m (x / 256)) (set line (at + m) (x % 256)) ≡ overFrom at (bigEndian n x) line
-unfolding bigEndian
-field-more line at x n m e =
-    rw e
-    (subst (λ k. overFrom at (bigEndian m (x / 256)) (set line (at + k) (x % 256)) ≡ overFrom at (bigEndian (suc m) x) line)
-    (length-big-endian m (x / 256))
-    (sym (over-from-last at (bigEndian m (x / 256)) line (x % 256))))
-
-pub field-none : (line : List ℕ) (at x n : ℕ) → n ≡ 0 → line ≡ overFrom at (bigEndian n x) line
-unfolding bigEndian
-field-none line at x n e = rw e (sym (over-from-nil at line))
 
 -- ---- fields one behind the other
 

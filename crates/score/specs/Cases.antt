@@ -7,13 +7,14 @@ use mathlib.Core.List.{List, [], _∷_}
 use mathlib.Core.Option.{Option·elim}
 use borrow.Author.Tests.{le-leb, lt-leb}
 use Rattle.hextext.specs.Written.{lineText}
+use Rattle.hextext.specs.Fields.{bigEndian}
 use Rattle.sheet.specs.Literal.{textOf}
 use Rattle.sheet.specs.Cases.{S, sheetS, S-means}
 use Rattle.derivations.specs.Derivation.{onto}
 use Rattle.trees.specs.ValidTrees.{whose, inside, early, late, bars, placedFrom, distanceTo}
 use Rattle.trees.specs.Leaves.{leavesFrom, entriesOf}
 use Rattle.pricing.specs.Pricing.{priced, noTree, priceSheet}
-use Rattle.score.specs.Score.{bigEndian, headLine, leafLine, leafLines, scoreText}
+use Rattle.score.specs.Score.{headLine, leafLine, leafLines, scoreText}
 use Rattle.score.specs.Writing.{Outcome, refusal, written, noRoom, textWithin, writePriced, writeSheet, writeRead, writeText}
 
 -- the three lines

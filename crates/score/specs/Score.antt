@@ -1,14 +1,10 @@
 -- Score lines, in the words of document 01's section "Pricing, score lines, finding". What writing promises is said with these definitions.
-use Prim.Native.Nat.{ℕ, zero, suc, _/_, _%_}
+use Prim.Native.Nat.{ℕ}
 use mathlib.Core.List.{List, [], _∷_, _++_, map}
 use lib.ListN.{length}
 use Rattle.hextext.specs.Written.{lineText}
+use Rattle.hextext.specs.Fields.{bigEndian}
 use Rattle.trees.specs.ValidTrees.{Entry}
-
--- "Fields are big-endian" (document 01, "The sheet"): the last `count` bytes of x, the most significant first
-unfoldable pub bigEndian : (count x : ℕ) → List ℕ
-bigEndian zero x = []
-bigEndian (suc k) x = bigEndian k (x / 256) ++ (x % 256 ∷ [])
 
 -- "Head `54`: B (1 byte), total (8), R (8), D (8)"
 unfoldable pub headLine : (bars total R D : ℕ) → List ℕ

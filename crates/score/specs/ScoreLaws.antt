@@ -1,27 +1,23 @@
 -- How long score lines are: 53 bytes for the head, 19 for each leaf and two for each placed pitch. Each onset of a sheet is placed once, so
 -- the text of a valid tree has two bytes for each onset.
-use Prim.Native.Nat.{ℕ, zero, suc, _+_, _*_, _/_, _%_}
+use Prim.Native.Nat.{ℕ, _+_, _*_}
 use mathlib.Core.Path.{_≡_, refl, ap}
 use mathlib.Core.List.{List, [], _∷_, _++_, append-assoc}
 use native.Mathlib.Omega.{arith}
 use lib.ListN.{length, length-append, length-map}
 use Rattle.hextext.specs.Written.{lineText}
 use Rattle.hextext.specs.Laws.{length-line}
+use Rattle.hextext.specs.Fields.{length-big-endian}
 use Rattle.sheet.specs.Sheet.{Sheet}
 use Rattle.sheet.specs.Good.{GoodOnsets}
 use Rattle.trees.specs.ValidTrees.{Entry, ValidTree}
 use Rattle.trees.specs.Placing.{allPlaced}
 use Rattle.trees.specs.Leaves.{entriesOf, entries-place-all}
-use Rattle.score.specs.Score.{bigEndian, headLine, leafLine, leafLines, scoreText}
+use Rattle.score.specs.Score.{headLine, leafLine, leafLines, scoreText}
 
 -- the length of score lines with so many leaves and so many onsets placed
 abbrev pub textSize : (leaves onsets : ℕ) → ℕ
 textSize leaves onsets = 53 + 19 * leaves + 2 * onsets
-
-pub length-big-endian : (count x : ℕ) → length (bigEndian count x) ≡ count
-unfolding bigEndian
-length-big-endian zero x = refl
-length-big-endian (suc k) x = omega (arith, length-append (bigEndian k (x / 256)) (x % 256 ∷ []), length-big-endian k (x / 256))
 
 pub head-line-bytes : (bars total R D : ℕ) → length (headLine bars total R D) ≡ 26
 unfolding headLine

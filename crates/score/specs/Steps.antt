@@ -7,6 +7,7 @@ use lib.ListN.{length, take, drop}
 use Rattle.slices.specs.Over.{over, overFrom}
 use Rattle.slices.specs.Pad.{pad}
 use Rattle.hextext.specs.Written.{lineText}
+use Rattle.hextext.specs.Fields.{bigEndian}
 use Rattle.sheet.specs.declared.table.GrammarTable.{GrammarTable}
 use Rattle.sheet.specs.declared.table.PlayingTable.{PlayingTable}
 use Rattle.sheet.specs.Sheet.{Onset, Playing, Sheet}
@@ -21,7 +22,7 @@ use Rattle.expansions.specs.declared.Interval.{Interval}
 use Rattle.expansions.specs.Tables.{RulesHeld, UnitsHeld}
 use Rattle.expansions.specs.Items.{firstAt, itemOf}
 use Rattle.score.specs.declared.tree.Place.{Place}
-use Rattle.score.specs.Score.{bigEndian, leafLine, leafLines, scoreText}
+use Rattle.score.specs.Score.{leafLine, leafLines, scoreText}
 
 -- ---- tables that hold a sheet
 

@@ -2,25 +2,11 @@
 ghost use mathlib.Core.Path.{_≡_};
 ghost use Prim.Native.Nat.{_+_, _≤_};
 ghost use lib.ListN.{length, take, drop, replicate};
-ghost use Rattle.slices.specs.Over.{overFrom};
 ghost use Rattle.slices.specs.Pad.{pad};
-ghost use Rattle.score.specs.Score.{bigEndian, headLine};
+ghost use Rattle.score.specs.Score.{headLine};
 ghost use Rattle.score.specs.Steps.{frontOf, lineOf, LineHeld};
 use expansions::Interval;
-
-// Puts the last `count` bytes of a number into a line, the most significant first.
-fn put_field(line: &mut [u8], at: usize, count: usize, x: u64)
-    requires { ⌜ at + count ≤ length (now line) ⌝ }
-    ensures { λ r. ⌜ now (line .exit) ≡ overFrom at (bigEndian count x) (now (line .entry)) ⌝ }
-{
-    let mut rest = x;
-    let mut left = count;
-    while 0 < left {
-        left -= 1;
-        line[at + left] = (rest % 256) as u8;
-        rest = rest / 256;
-    }
-}
+use hextext::put_field;
 
 // The bytes of the head.
 pub fn head_line(bars: u8, total: u64, weight: u64, distance: u64) -> [u8; 26]
