@@ -14,13 +14,12 @@ use Rattle.hextext.specs.Written.{lineText, pairsOf, hasRoom, LineWritten}
 use Rattle.sheet.specs.Sheet.{Sheet}
 use Rattle.sheet.specs.GoodLaws.{good}
 use Rattle.trees.specs.ValidTrees.{totalOf}
-use Rattle.trees.specs.Leaves.{entriesOf}
 use Rattle.trees.specs.Theorems.{nodes-most}
 use Rattle.pricing.specs.declared.Priced.{Priced}
 use Rattle.pricing.specs.PricingLaws.{tree-priced}
 use Rattle.score.specs.declared.Written.{Written}
 use Rattle.hextext.specs.Fields.{bigEndian}
-use Rattle.score.specs.Score.{scoreText}
+use Rattle.score.specs.Score.{treeText}
 use Rattle.score.specs.Writing as writing
 use Rattle.score.specs.Writing.{written, noRoom, textWithin, writePriced, writeSheet, writeRead, writeText, writtenOf, scoreAfter}
 use Rattle.finding.specs.declared.Shown.{Shown}
@@ -92,7 +91,7 @@ module _ (text : List ℕ) {tree treeAfter work workAfter : List ℕ} {x : Price
     bytes = take (x .nodes) treeAfter
 
     abbrev lines : List ℕ
-    lines = scoreText (s .playing .bars) (x .weight) (x .distance) (totalOf s (x .weight) (x .distance)) (entriesOf s bytes)
+    lines = treeText s bytes (x .weight) (x .distance) (totalOf s (x .weight) (x .distance))
 
     -- no tree has more bytes than are put back
     few : length bytes ≤ 41024

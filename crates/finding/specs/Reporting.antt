@@ -11,9 +11,8 @@ use Rattle.hextext.specs.Written.{lineText}
 use Rattle.sheet.specs.Sheet.{Sheet}
 use Rattle.trees.specs.ValidTrees.{totalOf}
 use Rattle.trees.specs.Found.{LeastTree}
-use Rattle.trees.specs.Leaves.{entriesOf}
 use Rattle.hextext.specs.Fields.{bigEndian}
-use Rattle.score.specs.Score.{scoreText}
+use Rattle.score.specs.Score.{treeText}
 use Rattle.finding.specs.declared.Shown.{Shown}
 use Rattle.finding.specs.declared.Shown.the-variants.{Score, Line}
 use Rattle.finding.specs.Finding.{Outcome, refusal, noTree, found, findText, cleared}
@@ -63,8 +62,7 @@ pageWithin room text = cond (leb (length text) room) (scorePage text) (refusalPa
 
 -- the score lines of a tree, as far as the score slice has room
 abbrev pub pageOf : (s : Sheet) → (bytes : List ℕ) → (weight distance room : ℕ) → Page
-pageOf s bytes weight distance room =
-    pageWithin room (scoreText (s .playing .bars) weight distance (totalOf s weight distance) (entriesOf s bytes))
+pageOf s bytes weight distance room = pageWithin room (treeText s bytes weight distance (totalOf s weight distance))
 
 -- the answer, the score slice and the line slice of a page, and the bytes to print
 pub record Prints (page : Page) (score scoreAfter line lineAfter : List ℕ) (answer : Shown) : Type 0 where

@@ -14,8 +14,8 @@ use Rattle.sheet.specs.Sheet.{Sheet}
 use Rattle.sheet.specs.Held.{playingTable}
 use Rattle.trees.specs.Leaves.{entriesOf}
 use Rattle.expansions.specs.Tables.{PackedRules, unitCells}
-use Rattle.score.specs.Score.{headLine, leafLines, scoreText}
-use Rattle.score.specs.Steps.{pitchCells, BarsEntry, BarsWritten, treeText, TextEntry, TextWritten}
+use Rattle.score.specs.Score.{headLine, scoreText, entryLines, treeText}
+use Rattle.score.specs.Steps.{pitchCells, BarsEntry, BarsWritten, TextEntry, TextWritten}
 
 module _ {s : Sheet} {g : GrammarTable} {pl : PlayingTable} {list : List ℕ} {R D total : ℕ} {score : List ℕ}
     (h : TextEntry s g pl list R D total score) where
@@ -23,7 +23,7 @@ module _ {s : Sheet} {g : GrammarTable} {pl : PlayingTable} {list : List ℕ} {R
   headText = lineText (headLine (s .playing .bars) total R D)
 
   abbrev leavesText : List ℕ
-  leavesText = leafLines (entriesOf s list)
+  leavesText = entryLines (entriesOf s list)
 
   whole : treeText s list R D total ≡ headText ++ leavesText
   unfolding scoreText

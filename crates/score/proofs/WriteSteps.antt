@@ -24,11 +24,12 @@ use Rattle.pricing.specs.Pricing as pricing
 use Rattle.pricing.specs.Pricing.{priced, noTree, priceSheet, pricedOf}
 use Rattle.pricing.specs.PricingLaws.{tree-priced, tree-or-none}
 use Rattle.score.specs.declared.Written.{Written}
+use Rattle.score.specs.Score.{treeText}
 use Rattle.score.specs.ScoreLaws.{textSize, score-length}
 use Rattle.score.specs.LeafRules.{leafRules, leaf-rules-most, leaf-rules-entries}
 use Rattle.score.specs.Writing.{Outcome, refusal, written, textWithin, writePriced, writeSheet, writeRead, writeText, writtenOf}
 use Rattle.score.specs.Writing.{scoreAfter}
-use Rattle.score.specs.Steps.{treeText, TextEntry, TextWritten}
+use Rattle.score.specs.Steps.{TextEntry, TextWritten}
 
 -- what an entry promises: its result and the score slice are those of the outcome
 abbrev pub Promised : Outcome → Written → (score score′ : List ℕ) → Type 0
@@ -106,7 +107,7 @@ module _ {s : Sheet} {g : GrammarTable} {p : PlayingTable} {list : List ℕ} {r 
   size-is =
       omega (
         arith,
-        score-length s (h .good .onsets) list (t .valid) (s .playing .bars) (r .weight) (r .distance) (r .total),
+        score-length s (h .good .onsets) list (t .valid) (r .weight) (r .distance) (r .total),
         leaves-are,
         leaf-rules-entries s list (t .valid),
         onsets-are,
