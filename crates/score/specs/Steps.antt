@@ -10,7 +10,8 @@ use Rattle.hextext.specs.Written.{lineText}
 use Rattle.sheet.specs.declared.table.GrammarTable.{GrammarTable}
 use Rattle.sheet.specs.declared.table.PlayingTable.{PlayingTable}
 use Rattle.sheet.specs.Sheet.{Onset, Playing, Sheet}
-use Rattle.sheet.specs.Held.{pitchOf}
+use Rattle.sheet.specs.Good.{GoodOnsets}
+use Rattle.sheet.specs.Held.{pitchOf, playingTable}
 use Rattle.sheet.specs.Accepted.{SheetHeld}
 use Rattle.derivations.specs.Derivation.{Item, Price, derive}
 use Rattle.trees.specs.ValidTrees.{early, late, Entry, placedFrom, ValidTree}
@@ -20,6 +21,8 @@ use Rattle.trees.specs.LeafBounds.{InOneBar}
 use Rattle.expansions.specs.declared.Interval.{Interval}
 use Rattle.expansions.specs.Tables.{RulesHeld, UnitsHeld}
 use Rattle.expansions.specs.Items.{firstAt, itemOf}
+use Rattle.pricing.specs.declared.Priced.{Priced}
+use Rattle.pricing.specs.Pricing.{priceSheet, pricedOf}
 use Rattle.score.specs.declared.tree.Place.{Place}
 use Rattle.score.specs.Score.{ScoreLeaf, leafLine, scoreLeaf, entryLines, treeText}
 
@@ -131,8 +134,10 @@ pub record BarsWritten (s : Sheet) (list : List ℕ) (to r : ℕ) (score score�
   pub end : r ≡ to + length (entryLines (entriesOf s list))
 
 -- what `write_text` is given: the tables hold the sheet, the list is a valid tree, and its text has room
-pub record TextEntry (s : Sheet) (g : GrammarTable) (p : PlayingTable) (list : List ℕ) (R D total : ℕ) (score : List ℕ) : Type 0 where
-  pub held : SheetHeld s g p
+pub record TextEntry (s : Sheet) (cells : List ℕ) (p : PlayingTable) (list : List ℕ) (R D total : ℕ) (score : List ℕ) : Type 0 where
+  pub rules : RulesHeld s cells
+  pub good : GoodOnsets (s .playing)
+  pub playing : p ≡ playingTable (s .playing)
   pub valid : ValidTree s list
   pub room : length (treeText s list R D total) ≤ length score
 
@@ -140,3 +145,8 @@ pub record TextEntry (s : Sheet) (g : GrammarTable) (p : PlayingTable) (list : L
 pub record TextWritten (s : Sheet) (list : List ℕ) (R D total r : ℕ) (score score′ : List ℕ) : Type 0 where
   pub text : score′ ≡ over (treeText s list R D total) score
   pub end : r ≡ length (treeText s list R D total)
+
+-- what `write_priced` is given: the tables hold the sheet, and the price is what pricing the list gives
+pub record PricedEntry (s : Sheet) (g : GrammarTable) (p : PlayingTable) (list : List ℕ) (price : Priced) : Type 0 where
+  pub held : SheetHeld s g p
+  pub own : price ≡ pricedOf (priceSheet s list)

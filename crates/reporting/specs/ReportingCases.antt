@@ -21,13 +21,13 @@ use Rattle.trees.specs.Found.{LeastTree}
 use Rattle.pricing.specs.Pricing.{priceSheet}
 use Rattle.hextext.specs.Fields.{bigEndian}
 use Rattle.score.specs.Cases.{linesOfS, S-score}
-use Rattle.finding.specs.declared.Shown.{Shown}
+use Rattle.reporting.specs.declared.Shown.{Shown}
 use Rattle.finding.specs.Finding.{hasTree, Outcome, found, findText}
 use Rattle.finding.specs.Outcomes.{one-found, sheet-found}
 use Rattle.finding.specs.Cases.{onlyTree, everyList}
 use Rattle.finding.specs.FindingCases.{one-least}
-use Rattle.finding.specs.Reporting.{Page, refusalLine, pageText, treeWith, pageWithin, printed, PrintsTree, Printed, Reports}
-use Rattle.finding.specs.ReportingLaws.{within-lines, within-short}
+use Rattle.reporting.specs.Reporting.{Page, refusalLine, pageText, treeWith, pageWithin, printed, PrintsTree, Printed, Reports}
+use Rattle.reporting.specs.ReportingLaws.{within-lines, within-short}
 
 -- ---- lines of refusals
 

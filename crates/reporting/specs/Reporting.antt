@@ -13,9 +13,9 @@ use Rattle.trees.specs.ValidTrees.{totalOf}
 use Rattle.trees.specs.Found.{LeastTree}
 use Rattle.hextext.specs.Fields.{bigEndian}
 use Rattle.score.specs.Score.{treeText}
-use Rattle.finding.specs.declared.Shown.{Shown}
-use Rattle.finding.specs.declared.Shown.the-variants.{Score, Line}
+use Rattle.reporting.specs.declared.Shown.{Shown}
+use Rattle.reporting.specs.declared.Shown.the-variants.{Score, Line}
 use Rattle.finding.specs.Finding.{Outcome, refusal, noTree, found, findText, cleared}
 
 -- "one line `52`, the refusal (1) and the line (2)"
 unfoldable pub refusalLine : (number line : ℕ) → List ℕ
@@ -80,7 +80,8 @@ pub record PrintsTree (s : Sheet) (tree treeAfter score scoreAfter line lineAfte
   pub tree-is : treeAfter ≡ treeWith (pageOf s bytes weight distance (length score)) bytes tree
   pub page : Prints (pageOf s bytes weight distance (length score)) score scoreAfter line lineAfter answer
 
--- every slice and the answer, by what finding comes to
+-- Every slice and the answer, by what finding comes to. Document 01 has "every slice keeps its bytes, except work after 11"; here the
+-- required work cells are 0 after 13 too, because a tree was found first: for the program, whose cells are 0 before, that is the same.
 abbrev pub Printed : Outcome → (tree treeAfter work workAfter score scoreAfter line lineAfter : List ℕ) → Shown → Type 0
 Printed (refusal k n) tree treeAfter work workAfter score scoreAfter line lineAfter answer =
     Prints (refusalPage k n) score scoreAfter line lineAfter answer × (treeAfter ≡ tree) × (workAfter ≡ work)
