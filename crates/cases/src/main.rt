@@ -11,7 +11,7 @@ use case_text::place_of;
 use case_text::print;
 use case_text::print_front;
 use case_text::wide;
-use finding::Shown;
+use reporting::Shown;
 
 // How `find` is run: what fills the slices, and how many bytes and cells are lent.
 struct Setting {
@@ -146,7 +146,7 @@ fn print_report(text: &[u8], tree: &mut [u8], work: &mut [u64], score: &mut [u8]
     fill_cells(work, 0);
     fill_from(score, 0, 0);
     let mut line = [0u8; 9];
-    let shown = finding::report(text, work, tree, score, &mut line);
+    let shown = reporting::report(text, work, tree, score, &mut line);
     io::write_all(1, b"\n");
     match shown {
         Shown::Line => {

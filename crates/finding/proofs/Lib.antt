@@ -1,3 +1,2 @@
 pub mod FigureSteps
 pub mod FindSteps
-pub mod ReportSteps

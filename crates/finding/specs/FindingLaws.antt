@@ -27,12 +27,13 @@ use Rattle.trees.specs.LeastTotal.{NONE, leastTotal}
 use Rattle.trees.specs.Found.{LeastTree, own-price, first-tree, least-total-below}
 use Rattle.trees.specs.Theorems.{valid-bytes, node-count, total-below}
 use Rattle.pricing.specs.declared.Priced.{Priced}
-use Rattle.pricing.specs.Pricing.{pricedOf}
+use Rattle.pricing.specs.Pricing.{priceSheet, pricedOf}
+use Rattle.pricing.specs.PricingLaws.{tree-priced}
 use Rattle.finding.specs.Finding as finding
-use Rattle.finding.specs.Finding.{hasTree, found, findSheet, findText, numberOf, lineOf, cleared, FoundTree, Gives, Finds}
+use Rattle.finding.specs.Finding.{hasTree, found, findSheet, numberOf, cleared, FoundTree, Gives, Finds}
 use Rattle.finding.specs.Numbers.{refused-most}
 use Rattle.finding.specs.Outcomes.{work-short, tree-short, none-found, one-found, by-lengths, refused-found}
-use Rattle.finding.specs.Outcomes.{sheet-found, by-text}
+use Rattle.finding.specs.Outcomes.{sheet-found}
 
 -- ---- whether there is a tree
 
@@ -81,43 +82,41 @@ module _ (s : Sheet) (d : ℕ) (ok : Good d s) where
       go zero h e = omega arith
       go (suc b) h e = Option·none-ne-some _ e
 
--- a line fits two bytes
-pub line-most : (text : List ℕ) (tree work : ℕ) → lineOf (findText text tree work) ≤ 16385
-line-most text tree work =
-    by-text text tree work (λ o. lineOf o ≤ 16385) (λ k n e. refused-within text k n e .1)
-    (λ d s e. by-lengths s tree work (λ o. lineOf o ≤ 16385)
-    (λ q. omega arith) (λ q. omega arith) (λ t q. omega arith) (λ t q. omega arith))
-
 -- ---- demand 3
 
--- what number 0 tells
-pub record HandedBack (text tree treeAfter work workAfter : List ℕ) (answer : Priced) : Type 0 where
-  pub duration : ℕ
-  pub sheet : Sheet
-  pub read : readSheet text ≡ accepted duration sheet
-  pub outcome : findText text (length tree) (length work) ≡ found sheet
+-- what number 0 tells of a sheet
+pub record TreeHandedBack (s : Sheet) (tree treeAfter work workAfter : List ℕ) (answer : Priced) : Type 0 where
+  pub outcome : findSheet s (length tree) (length work) ≡ found s
   -- the tree handed back is the bytes at the front of the tree slice: a valid tree with the figures given, and none totals less
-  pub least : LeastTree sheet (take (answer .nodes) treeAfter) (answer .weight) (answer .distance)
-  pub total : answer .total ≡ totalOf sheet (answer .weight) (answer .distance)
+  pub least : LeastTree s (take (answer .nodes) treeAfter) (answer .weight) (answer .distance)
+  pub total : answer .total ≡ totalOf s (answer .weight) (answer .distance)
+  -- the answer is what pricing it gives
+  pub own : answer ≡ pricedOf (priceSheet s (take (answer .nodes) treeAfter))
   pub within : answer .nodes ≤ length treeAfter
   -- the bytes behind them are kept
   pub written : treeAfter ≡ over (take (answer .nodes) treeAfter) tree
   pub kept : drop (answer .nodes) treeAfter ≡ drop (answer .nodes) tree
-  pub clear : workAfter ≡ cleared sheet work
+  pub clear : workAfter ≡ cleared s work
 
-module _ (text : List ℕ) {tree treeAfter work workAfter : List ℕ} {answer : Priced} where
-  from-tree : (d : ℕ) (s : Sheet) → readSheet text ≡ accepted d s → findText text (length tree) (length work) ≡ found s
-      → treeBytes s ≤ length tree → FoundTree s tree treeAfter answer → workAfter ≡ cleared s work
-      → HandedBack text tree treeAfter work workAfter answer
+-- and of a text
+pub record HandedBack (text tree treeAfter work workAfter : List ℕ) (answer : Priced) : Type 0 where
+  pub duration : ℕ
+  pub sheet : Sheet
+  pub read : readSheet text ≡ accepted duration sheet
+  pub back : TreeHandedBack sheet tree treeAfter work workAfter answer
+
+module _ (s : Sheet) (d : ℕ) (ok : Good d s) {tree treeAfter work workAfter : List ℕ} {answer : Priced} where
+  from-tree : findSheet s (length tree) (length work) ≡ found s → treeBytes s ≤ length tree → FoundTree s tree treeAfter answer
+      → workAfter ≡ cleared s work → TreeHandedBack s tree treeAfter work workAfter answer
   unfolding pricedOf
-  from-tree d s e o room t c =
+  from-tree o room t c =
       record {
-        duration = d;
-        sheet = s;
-        read = e;
         outcome = o;
         least = rw (front, weight, distance) (t .least);
         total = ap (λ (p : Priced). p .total) (t .figures) ∙ rw (weight, distance) refl;
+        own =
+            t .figures ∙ ap pricedOf (sym (tree-priced s (t .bytes) (t .weight) (t .distance) (t .least .valid)))
+            ∙ ap (λ (bs : List ℕ). pricedOf (priceSheet s bs)) (sym front);
         within = omega (arith, nodes, fits, ap length (t .tree-written), length-over (t .bytes) tree);
         written = t .tree-written ∙ ap (λ (bs : List ℕ). over bs tree) (sym front);
         kept = rw (nodes, t .tree-written) (drop-over (t .bytes) tree fits);
@@ -134,11 +133,32 @@ module _ (text : List ℕ) {tree treeAfter work workAfter : List ℕ} {answer : 
       distance = ap (λ (p : Priced). p .distance) (t .figures)
 
       fits : length (t .bytes) ≤ length tree
-      fits = omega (arith, room, tree-fits s d (good text d s e) (t .bytes) (t .least .valid .valid))
+      fits = omega (arith, room, tree-fits s d ok (t .bytes) (t .least .valid .valid))
 
       front : take (answer .nodes) treeAfter ≡ t .bytes
       front = rw (nodes, t .tree-written) (take-over (t .bytes) tree fits)
 
+  -- number 0: a tree is handed back
+  pub tree-handed-back : Gives (findSheet s (length tree) (length work)) tree treeAfter work workAfter answer → answer .number ≡ 0
+      → TreeHandedBack s tree treeAfter work workAfter answer
+  tree-handed-back f z = by-lengths s (length tree) (length work) Back nine ten eleven tree-given f
+    where
+      Back : finding.Outcome → Type 0
+      Back o = Gives o tree treeAfter work workAfter answer → TreeHandedBack s tree treeAfter work workAfter answer
+
+      nine : findSheet s (length tree) (length work) ≡ finding.refusal 9 0 → Back (finding.refusal 9 0)
+      nine q g = let f : ⊥ = omega (arith, g .number) in absurd f
+
+      ten : findSheet s (length tree) (length work) ≡ finding.refusal 10 0 → Back (finding.refusal 10 0)
+      ten q g = let f : ⊥ = omega (arith, g .number) in absurd f
+
+      eleven : treeBytes s ≤ length tree → findSheet s (length tree) (length work) ≡ finding.noTree s → Back (finding.noTree s)
+      eleven t q g = let f : ⊥ = omega (arith, g .number) in absurd f
+
+      tree-given : treeBytes s ≤ length tree → findSheet s (length tree) (length work) ≡ found s → Back (found s)
+      tree-given t q g = from-tree q t (g .result .0) (g .result .1)
+
+module _ (text : List ℕ) {tree treeAfter work workAfter : List ℕ} {answer : Priced} where
   module _ (f : Finds text tree treeAfter work workAfter answer) where
     -- of a text that is refused the number is reading's; it is 1 to 8
     pub refused-number : (k n : ℕ) → readSheet text ≡ refused k n → (answer .number ≡ k) × (1 ≤ k) × (k ≤ 8)
@@ -151,28 +171,9 @@ module _ (text : List ℕ) {tree treeAfter work workAfter : List ℕ} {answer : 
       where
         go : (o : Outcome) → readSheet text ≡ o → HandedBack text tree treeAfter work workAfter answer
         go (refused k n) e = let (q, one, most) = refused-number k n e in let f : ⊥ = omega arith in absurd f
-        go (accepted d s) e = by-lengths s (length tree) (length work) Back nine ten eleven tree-given at-sheet
-          where
-            to-sheet : findText text (length tree) (length work) ≡ findSheet s (length tree) (length work)
-            to-sheet = sheet-found text _ _ d s e
-
-            at-sheet : Gives (findSheet s (length tree) (length work)) tree treeAfter work workAfter answer
-            at-sheet = subst (λ o. Gives o tree treeAfter work workAfter answer) to-sheet f
-
-            Back : finding.Outcome → Type 0
-            Back o = Gives o tree treeAfter work workAfter answer → HandedBack text tree treeAfter work workAfter answer
-
-            nine : findSheet s (length tree) (length work) ≡ finding.refusal 9 0 → Back (finding.refusal 9 0)
-            nine q g = let f : ⊥ = omega (arith, g .number) in absurd f
-
-            ten : findSheet s (length tree) (length work) ≡ finding.refusal 10 0 → Back (finding.refusal 10 0)
-            ten q g = let f : ⊥ = omega (arith, g .number) in absurd f
-
-            eleven : treeBytes s ≤ length tree → findSheet s (length tree) (length work) ≡ finding.noTree s → Back (finding.noTree s)
-            eleven t q g = let f : ⊥ = omega (arith, g .number) in absurd f
-
-            tree-given : treeBytes s ≤ length tree → findSheet s (length tree) (length work) ≡ found s → Back (found s)
-            tree-given t q g = from-tree d s e (to-sheet ∙ q) t (g .result .0) (g .result .1)
+        go (accepted d s) e =
+            let at-sheet = subst (λ o. Gives o tree treeAfter work workAfter answer) (sheet-found text _ _ d s e) f in
+            record { duration = d; sheet = s; read = e; back = tree-handed-back s d (good text d s e) at-sheet z }
 
     -- a refused text: neither 0 nor 11
     pub refused-neither : (k n : ℕ) → readSheet text ≡ refused k n → (answer .number ≡ 0 → ⊥) × (answer .number ≡ 11 → ⊥)

@@ -3,10 +3,6 @@ pub mod Figures
 pub mod Outcomes
 pub mod FindingLaws
 pub mod Numbers
-pub mod Reporting
-pub mod Restoring
-pub mod ReportingLaws
 pub mod EveryReading
 pub mod Cases
 pub mod FindingCases
-pub mod ReportingCases

@@ -1,3 +1,4 @@
 pub mod BadSteps
+pub mod FieldSteps
 pub mod LineSteps
 pub mod WriteSteps

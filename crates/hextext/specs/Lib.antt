@@ -1,4 +1,5 @@
 pub mod Text
 pub mod Written
+pub mod Fields
 pub mod Laws
 pub mod Refuted

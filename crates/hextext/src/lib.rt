@@ -1,10 +1,14 @@
-// Lines of hexadecimal pairs, each closed by byte 0A: finding the first bad line of a text, reading the next line, writing a line.
-// Texts and lines are of any length.
+// Lines of hexadecimal pairs, each closed by byte 0A: finding the first bad line of a text, reading the next line, writing a line, and
+// putting a field into a line. Texts and lines are of any length.
 ghost use mathlib.Core.Path.{_≡_};
 ghost use mathlib.Core.Bool.{_&&_};
 ghost use Prim.Native.Nat.{_<_};
 ghost use Rattle.hextext.specs.Text.{isDigit, value, pair, badLine, NextLine};
 ghost use Rattle.hextext.specs.Written.{digitOf, LineWritten};
+
+mod field;
+
+pub use field::put_field;
 
 // Whether a byte is a digit 0-9 A-F.
 fn is_digit(b: u8) -> bool

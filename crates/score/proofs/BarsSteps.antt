@@ -15,7 +15,7 @@ use Rattle.trees.specs.Found.{own-price}
 use Rattle.trees.specs.Leaves.{leavesFrom, entriesOf}
 use Rattle.expansions.specs.Places.{first-zero}
 use Rattle.score.specs.declared.tree.Place.{Place}
-use Rattle.score.specs.Score.{leafLines}
+use Rattle.score.specs.Score.{leafLines, entryLines}
 use Rattle.score.specs.Steps.{carriedInto, textLeft, BarsEntry, BarsWritten}
 use Rattle.score.proofs.PartsSteps.{PartsEntry, PartsUpto, parts-all}
 
@@ -39,7 +39,7 @@ nothing-left : (s : Sheet) (list : List ℕ) (x : Place) → textLeft s list [] 
 unfolding leavesFrom placedFrom leafLines
 nothing-left s list x = go (drop (x .at) list)
   where
-    go : (xs : List ℕ) → leafLines (placedFrom s (carriedInto s x) (leavesFrom s xs [])) ≡ []
+    go : (xs : List ℕ) → entryLines (placedFrom s (carriedInto s x) (leavesFrom s xs [])) ≡ []
     go [] = refl
     go (r ∷ xs) = refl
 
@@ -51,8 +51,8 @@ module _ {s : Sheet} {cells us ps list : List ℕ} {count to : ℕ} {score : Lis
       go : (R : ℕ) × (D : ℕ) × Priced s list R D → (price : Price) × (derive (instanceOf s) list (bars s) 0 ≡ some price)
       go (R, D, v) = (_, valid-derived s list R D v)
 
-  whole-text : textLeft s list (row 0 barUnits (roots s) ++ []) (begin to) ≡ leafLines (entriesOf s list)
-  whole-text = ap (λ gs. leafLines (placedFrom s [] (leavesFrom s list gs))) (bars-row s)
+  whole-text : textLeft s list (row 0 barUnits (roots s) ++ []) (begin to) ≡ entryLines (entriesOf s list)
+  whole-text = ap (λ gs. entryLines (placedFrom s [] (leavesFrom s list gs))) (bars-row s)
 
   -- bar b is one of them
   pub bar-left : {b : ℕ} → b < count → b < length (roots s)

@@ -25,9 +25,9 @@ use Rattle.expansions.specs.Tables.{lastUnit}
 use Rattle.expansions.specs.Items.{firstAt, Here, PlacedAt}
 use Rattle.expansions.specs.Places.{inside-then, first-next}
 use Rattle.score.specs.declared.tree.Place.{Place}
-use Rattle.score.specs.Score.{leafLine}
+use Rattle.score.specs.Score.{leafLine, scoreLeaf}
 use Rattle.score.specs.ScoreLaws.{leaf-line-bytes}
-use Rattle.score.specs.Steps.{pitchCells, lineOf, LineHeld, carriedInto, StandsAt, entryAt, leafText, LeafEntry, LeafWritten}
+use Rattle.score.specs.Steps.{pitchCells, leafOver, LineHeld, carriedInto, StandsAt, entryAt, leafText, LeafEntry, LeafWritten}
 
 -- ---- lists
 
@@ -95,13 +95,6 @@ module _ (s : Sheet) (good : GoodOnsets (s .playing)) (left len : ℕ) (within :
 abbrev pub behindLeaf : Place → Placed → (to : ℕ) → Place
 behindLeaf p x to = record { at = p .at; from = p .from + x .early + x .late; carried = x .late; to = to }
 
--- its bytes, by the pitches placed
-line-is : (s : Sheet) (over : Interval) (n : ℕ) (p : Place)
-    → leafLine (entryAt s over n p)
-    ≡ lineOf (over .left .0) (over .len .0) n (map pitchOf (carriedInto s p ++ early s (over .left .0) (over .len .0)))
-unfolding leafLine lineOf
-line-is s over n p = rw length-map
-
 module _ {s : Sheet} {us ps : List ℕ} {over : Interval} {n : ℕ} {p : Place} {score : List ℕ} (h : LeafEntry s us ps over n p score) where
   abbrev left : ℕ
   left = over .left .0
@@ -153,15 +146,16 @@ module _ {s : Sheet} {us ps : List ℕ} {over : Interval} {n : ℕ} {p : Place} 
         ∙ ap (take k) (map-drop pitchOf i os) ∙ map-take pitchOf k (drop i os) ∙ ap (map pitchOf) row)
 
     module _ {count : ℕ} {bytes : List ℕ}
-        (is : LineHeld (lineOf left len n (take (p .carried + x .early) (drop (p .from - p .carried) ps))) count bytes) where
-      held : LineHeld (leafLine (entryAt s over n p)) count bytes
-      held = subst (λ l. LineHeld l count bytes) (ap (lineOf left len n) pitches-placed ∙ sym (line-is s over n p)) is
+        (is : LineHeld (leafLine (leafOver over n (take (p .carried + x .early) (drop (p .from - p .carried) ps)))) count bytes) where
+      held : LineHeld (leafLine (scoreLeaf (entryAt s over n p))) count bytes
+      held = subst (λ l. LineHeld l count bytes) (ap (λ xs. leafLine (leafOver over n xs)) pitches-placed) is
 
-      size : length (leafLine (entryAt s over n p)) ≤ 44
+      size : length (leafLine (scoreLeaf (entryAt s over n p))) ≤ 44
       size =
           omega (
             arith,
-            leaf-line-bytes (entryAt s over n p),
+            leaf-line-bytes (scoreLeaf (entryAt s over n p)),
+            length-map (carriedInto s p ++ early s left len) pitchOf,
             length-append (carriedInto s p) (early s left len),
             length-take (p .carried) (drop (p .from - p .carried) (s .playing .onsets)),
             early-size s good left len within,
@@ -169,14 +163,14 @@ module _ {s : Sheet} {us ps : List ℕ} {over : Interval} {n : ℕ} {p : Place} 
             e .early,
           )
 
-      bytes-are : take count bytes ≡ leafLine (entryAt s over n p)
+      bytes-are : take count bytes ≡ leafLine (scoreLeaf (entryAt s over n p))
       bytes-are =
-          let l = leafLine (entryAt s over n p) in
+          let l = leafLine (scoreLeaf (entryAt s over n p)) in
           ap (λ k. take k bytes) (held .size) ∙ ap (take (length l)) (held .cells) ∙ slice-pad 44 0 l 0 (length l) size (omega arith)
           ∙ take-length l
 
       array-size : length bytes ≡ 44
-      array-size = ap length (held .cells) ∙ length-pad 44 0 (leafLine (entryAt s over n p))
+      array-size = ap length (held .cells) ∙ length-pad 44 0 (leafLine (scoreLeaf (entryAt s over n p)))
 
       pub count-within : count ≤ length bytes
       count-within = omega (arith, held .size, size, array-size)
@@ -201,8 +195,8 @@ module _ {s : Sheet} {us ps : List ℕ} {over : Interval} {n : ℕ} {p : Place} 
       unfolding hasRoom
       leaf-written to score′ w =
           let text = leafText s over n p in
-          let fits : hasRoom (leafLine (entryAt s over n p)) (p .to) score ≡ true = le-leb _ _ (h .room) in
-          let v : LineWritten (leafLine (entryAt s over n p)) (p .to) score score′ to = rw bytes-are at w in
+          let fits : hasRoom (leafLine (scoreLeaf (entryAt s over n p))) (p .to) score ≡ true = le-leb _ _ (h .room) in
+          let v : LineWritten (leafLine (scoreLeaf (entryAt s over n p))) (p .to) score score′ to = rw bytes-are at w in
           record {
             at = refl;
             stands = stands-behind to;

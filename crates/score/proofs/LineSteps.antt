@@ -1,31 +1,17 @@
 -- The bytes of score lines, put into an array field by field.
-use Prim.Native.Nat.{ℕ, suc, _+_, _-_, _/_, _%_, _≤_, _<_}
-use mathlib.Core.Path.{_≡_, refl, sym, ap, subst, _∙_}
+use Prim.Native.Nat.{ℕ, _+_, _-_, _≤_, _<_}
+use mathlib.Core.Path.{_≡_, refl, sym, ap, _∙_}
 use mathlib.Core.List.{List, [], _∷_, _++_, append-assoc, append-nil}
 use native.Mathlib.Omega.{arith}
 use native.Mathlib.Numerals.{add-one}
 use lib.ListN.{length, getD, take, drop, set, replicate, length-append, length-drop}
 use lib.Seq.{take-suc, getD-drop, length-take-le}
-use Rattle.slices.specs.Over.{overFrom, over-from-nil, over-from-last}
+use Rattle.slices.specs.Over.{overFrom}
 use Rattle.slices.specs.Pad.{pad, pad-nil, pad-more, pad-over, pad-whole}
-use Rattle.score.specs.Score.{bigEndian, headLine}
-use Rattle.score.specs.ScoreLaws.{length-big-endian}
-use Rattle.score.specs.Steps.{frontOf, lineOf, LineHeld}
-
--- ---- a number, from its last byte to its first
-
-pub field-more : (line : List ℕ) (at x n m : ℕ) → n ≡ suc m
-    → overFrom at (bigEndian m (x / 256)) (set line (at + m) (x % 256)) ≡ overFrom at (bigEndian n x) line
-unfolding bigEndian
-field-more line at x n m e =
-    rw e
-    (subst (λ k. overFrom at (bigEndian m (x / 256)) (set line (at + k) (x % 256)) ≡ overFrom at (bigEndian (suc m) x) line)
-    (length-big-endian m (x / 256))
-    (sym (over-from-last at (bigEndian m (x / 256)) line (x % 256))))
-
-pub field-none : (line : List ℕ) (at x n : ℕ) → n ≡ 0 → line ≡ overFrom at (bigEndian n x) line
-unfolding bigEndian
-field-none line at x n e = rw e (sym (over-from-nil at line))
+use Rattle.hextext.specs.Fields.{bigEndian, length-big-endian}
+use Rattle.score.specs.Score.{headLine, leafFront, leafLine}
+use Rattle.score.specs.ScoreLaws.{leaf-front-bytes}
+use Rattle.score.specs.Steps.{LineHeld}
 
 -- ---- fields one behind the other
 
@@ -73,8 +59,8 @@ head-made bars total R D a b c ea eb ec = go (put-number 26 front _ a 2 8 total 
 
 module _ (left len n : ℕ) where
   pub front-made : (placed : ℕ) (line x y : List ℕ) → line ≡ replicate 44 0 → x ≡ overFrom 1 (bigEndian 4 left) (set line 0 0x53)
-      → y ≡ overFrom 5 (bigEndian 2 len) x → set (set y 7 n) 8 placed ≡ pad 44 0 (frontOf left len n placed)
-  unfolding frontOf
+      → y ≡ overFrom 5 (bigEndian 2 len) x → set (set y 7 n) 8 placed ≡ pad 44 0 (leafFront left len n placed)
+  unfolding leafFront
   front-made placed line x y z ex ey =
       go (put-number 44 kind _ x 1 4 left (ap (λ xs. set xs 0 0x53) z ∙ put-first 44 0x53 (omega arith)) refl (omega arith) ex)
     where
@@ -88,19 +74,15 @@ module _ (left len n : ℕ) where
       k = bigEndian 2 len
 
       last : (y ≡ pad 44 0 ((kind ++ l) ++ k)) × (length ((kind ++ l) ++ k) ≡ 7)
-          → set (set y 7 n) 8 placed ≡ pad 44 0 (frontOf left len n placed)
+          → set (set y 7 n) 8 placed ≡ pad 44 0 (leafFront left len n placed)
       last (e, s) =
           let b = (kind ++ l) ++ k in
           let size : length (b ++ (n ∷ [])) ≡ 8 = omega (arith, length-append b (n ∷ [])) in
           pad-more 44 0 (b ++ (n ∷ [])) (set y 7 n) 8 placed (pad-more 44 0 b y 7 n e s (omega arith)) size (omega arith)
           ∙ ap (pad 44 0) (simp append-assoc)
 
-      go : (x ≡ pad 44 0 (kind ++ l)) × (length (kind ++ l) ≡ 5) → set (set y 7 n) 8 placed ≡ pad 44 0 (frontOf left len n placed)
+      go : (x ≡ pad 44 0 (kind ++ l)) × (length (kind ++ l) ≡ 5) → set (set y 7 n) 8 placed ≡ pad 44 0 (leafFront left len n placed)
       go (e, s) = last (put-number 44 (kind ++ l) x y 5 2 len e s (omega arith) ey)
-
-  pub front-bytes : (placed : ℕ) → length (frontOf left len n placed) ≡ 9
-  unfolding frontOf
-  front-bytes placed = simp (length-append, length-big-endian)
 
 -- the line's array after i pitches, whatever nine bytes stand before them
 abbrev pub Pitched : (pitches : List ℕ) (first : ℕ) (bytes₀ bytes : List ℕ) (i : ℕ) → Type 0
@@ -132,16 +114,16 @@ module _ (pitches : List ℕ) (first placed : ℕ) (few : placed ≤ 35) (within
       pad-more 44 0 (front ++ take i row) bytes (9 + i) x (t front e f) (taken front e i (omega arith)) (omega arith)
       ∙ ap (pad 44 0) (append-assoc front (take i row) (x ∷ []) ∙ ap (front ++_) (sym next))
 
-  pub pitched-all : (left len n : ℕ) (bytes₀ bytes : List ℕ) (i : ℕ) → bytes₀ ≡ pad 44 0 (frontOf left len n placed)
+  pub pitched-all : (left len n : ℕ) (bytes₀ bytes : List ℕ) (i : ℕ) → bytes₀ ≡ pad 44 0 (leafFront left len n placed)
       → Pitched pitches first bytes₀ bytes i → i ≡ placed
-      → LineHeld (lineOf left len n (take placed (drop first pitches))) (9 + placed) bytes
-  unfolding lineOf frontOf
+      → LineHeld (leafLine (record { left = left; len = len; n = n; pitches = take placed (drop first pitches) })) (9 + placed) bytes
+  unfolding leafLine
   pitched-all left len n bytes₀ bytes i f t e =
-      let front = frontOf left len n placed in
-      let nine = front-bytes left len n placed in
+      let front = leafFront left len n placed in
+      let nine = leaf-front-bytes left len n placed in
       let row = take placed (drop first pitches) in
-      let whole : front ++ row ≡ lineOf left len n row =
-      simp append-assoc (rw (length-take-le placed (drop first pitches) (omega (arith, left-from)))) in
+      let whole : front ++ row ≡ leafFront left len n (length row) ++ row =
+      ap (λ k. leafFront left len n k ++ row) (sym (length-take-le placed (drop first pitches) (omega (arith, left-from)))) in
       record {
         size = sym (taken front nine placed (omega arith)) ∙ ap length whole;
         cells = (rw e at (t front nine f)) ∙ ap (pad 44 0) whole;

@@ -22,7 +22,7 @@ use Rattle.trees.specs.LeafBounds.{InOneBar, part-in-bar}
 use Rattle.expansions.specs.declared.Interval.{Interval}
 use Rattle.expansions.specs.Items.{interval, itemOf}
 use Rattle.score.specs.declared.tree.Place.{Place}
-use Rattle.score.specs.Score.{leafLines}
+use Rattle.score.specs.Score.{entryLines}
 use Rattle.expansions.specs.Tables.{RulesHeld}
 use Rattle.score.specs.Steps.{OnsetsHeld, carriedInto, textLeft, Ahead, WentOn, TreeEntry, TreeWritten}
 use Rattle.score.proofs.TreeSteps.{behindRule, DivisionHere, front}
@@ -130,8 +130,8 @@ module _ {s : Sheet} {q : ℕ} {rest : List Item} {cells us ps list : List ℕ} 
   text-division : textLeft s list (itemOf q over ∷ rest) p ≡ textLeft s list (row left′ (len′ / k) ks ++ rest) (behindRule p)
   text-division =
       rw (← size)
-      (ap (λ xs. leafLines (placedFrom s (carriedInto s p) (leavesFrom s xs (itemOf q over ∷ rest)))) (front h)
-      ∙ ap (λ ls. leafLines (placedFrom s (carriedInto s p) ls)) (leaves-divided s (itemOf q over) rest _ q (d .weight) ks _ (d .rule)))
+      (ap (λ xs. entryLines (placedFrom s (carriedInto s p) (leavesFrom s xs (itemOf q over ∷ rest)))) (front h)
+      ∙ ap (λ ls. entryLines (placedFrom s (carriedInto s p) ls)) (leaves-divided s (itemOf q over) rest _ q (d .weight) ks _ (d .rule)))
 
   pub parts-entry : PartsEntry s rest ks cells us ps list left′ (len′ / k) (behindRule p) score
   parts-entry =

@@ -8,22 +8,21 @@ use borrow.Author.Tests.{le-leb}
 use lib.ListN.{length, length-append}
 use Rattle.slices.specs.Over.{over, overFrom, over-append, length-over}
 use Rattle.hextext.specs.Written.{lineText, hasRoom, LineWritten}
-use Rattle.sheet.specs.declared.table.GrammarTable.{GrammarTable}
 use Rattle.sheet.specs.declared.table.PlayingTable.{PlayingTable}
 use Rattle.sheet.specs.Sheet.{Sheet}
 use Rattle.sheet.specs.Held.{playingTable}
 use Rattle.trees.specs.Leaves.{entriesOf}
-use Rattle.expansions.specs.Tables.{PackedRules, unitCells}
-use Rattle.score.specs.Score.{headLine, leafLines, scoreText}
-use Rattle.score.specs.Steps.{pitchCells, BarsEntry, BarsWritten, treeText, TextEntry, TextWritten}
+use Rattle.expansions.specs.Tables.{unitCells}
+use Rattle.score.specs.Score.{headLine, scoreText, entryLines, treeText}
+use Rattle.score.specs.Steps.{pitchCells, BarsEntry, BarsWritten, TextEntry, TextWritten}
 
-module _ {s : Sheet} {g : GrammarTable} {pl : PlayingTable} {list : List ℕ} {R D total : ℕ} {score : List ℕ}
-    (h : TextEntry s g pl list R D total score) where
+module _ {s : Sheet} {cells : List ℕ} {pl : PlayingTable} {list : List ℕ} {R D total : ℕ} {score : List ℕ}
+    (h : TextEntry s cells pl list R D total score) where
   abbrev headText : List ℕ
   headText = lineText (headLine (s .playing .bars) total R D)
 
   abbrev leavesText : List ℕ
-  leavesText = leafLines (entriesOf s list)
+  leavesText = entryLines (entriesOf s list)
 
   whole : treeText s list R D total ≡ headText ++ leavesText
   unfolding scoreText
@@ -34,15 +33,15 @@ module _ {s : Sheet} {g : GrammarTable} {pl : PlayingTable} {list : List ℕ} {R
 
   bars-are : pl .bars ≡ s .playing .bars
   unfolding playingTable
-  bars-are = ap (λ (x : PlayingTable). x .bars) (h .held .playing)
+  bars-are = ap (λ (x : PlayingTable). x .bars) (h .playing)
 
   pub few-onsets : pl .count ≤ 512
   unfolding playingTable
-  few-onsets = omega (arith, ap (λ (x : PlayingTable). x .count) (h .held .playing), h .held .good .onsets .most)
+  few-onsets = omega (arith, ap (λ (x : PlayingTable). x .count) (h .playing), h .good .most)
 
   pitches-are : pl .pitches ≡ pitchCells (s .playing)
   unfolding playingTable pitchCells
-  pitches-are = ap (λ (x : PlayingTable). x .pitches) (h .held .playing)
+  pitches-are = ap (λ (x : PlayingTable). x .pitches) (h .playing)
 
   module _ (head : List ℕ) (is : head ≡ headLine (pl .bars) total R D) (to : ℕ) (score₁ : List ℕ)
       (w : LineWritten head 0 score score₁ to) where
@@ -61,12 +60,11 @@ module _ {s : Sheet} {g : GrammarTable} {pl : PlayingTable} {list : List ℕ} {R
     head-end =
         let e = written .end ∙ ap (λ b. cond b (0 + length headText) 0) fits in omega (arith, e)
 
-    pub bars-given : (cells us : List ℕ) → PackedRules (s .grammar) cells → us ≡ unitCells (s .playing)
-        → BarsEntry s cells us (pl .pitches) list (pl .bars) to score₁
-    bars-given cells us f e =
+    pub bars-given : (us : List ℕ) → us ≡ unitCells (s .playing) → BarsEntry s cells us (pl .pitches) list (pl .bars) to score₁
+    bars-given us e =
         record {
-          rules = record { good = h .held .good .rules; rules = f };
-          onsets = record { units = record { good = h .held .good .onsets; cells = e }; pitches = pitches-are };
+          rules = h .rules;
+          onsets = record { units = record { good = h .good; cells = e }; pitches = pitches-are };
           bars = bars-are;
           valid = h .valid;
           room = omega (arith, size, head-end, ap length head-text, length-over headText score);

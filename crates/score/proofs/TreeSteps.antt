@@ -23,7 +23,7 @@ use Rattle.expansions.specs.RuleCells.{leaf≢division}
 use Rattle.slices.specs.Lookup.{some-below, drop-step}
 use Rattle.expansions.specs.Items.{itemOf}
 use Rattle.score.specs.declared.tree.Place.{Place}
-use Rattle.score.specs.Score.{leafLines}
+use Rattle.score.specs.Score.{leafLines, entryLines}
 use Rattle.score.specs.Steps.{carriedInto, leafText, LeafEntry, LeafWritten, textLeft, TreeEntry, TreeWritten}
 use Rattle.score.proofs.CountSteps.{cell-at}
 
@@ -150,14 +150,14 @@ module _ {s : Sheet} {q : ℕ} {rest : List Item} {cells us ps list : List ℕ} 
 
   -- the text that is left behind the rule
   abbrev after : List ℕ
-  after = leafLines (placedFrom s (late s left len) (leavesFrom s (drop (p .at + 1) list) rest))
+  after = entryLines (placedFrom s (late s left len) (leavesFrom s (drop (p .at + 1) list) rest))
 
   module _ {n : ℕ} (l : LeafHere s q rest list over p r n) where
     text-leaf : textLeft s list (itemOf q over ∷ rest) p ≡ leafText s over n p ++ after
     unfolding leafLines placedFrom
     text-leaf =
-        ap (λ xs. leafLines (placedFrom s (carriedInto s p) (leavesFrom s xs (itemOf q over ∷ rest)))) front
-        ∙ ap (λ ls. leafLines (placedFrom s (carriedInto s p) ls))
+        ap (λ xs. entryLines (placedFrom s (carriedInto s p) (leavesFrom s xs (itemOf q over ∷ rest)))) front
+        ∙ ap (λ ls. entryLines (placedFrom s (carriedInto s p) ls))
         (leaves-leaf s (itemOf q over) r q (l .weight) n (drop (p .at + 1) list) (l .rule) rest)
 
     room : p .to + (length (leafText s over n p) + length after) ≤ length score
@@ -178,8 +178,8 @@ module _ {s : Sheet} {q : ℕ} {rest : List Item} {cells us ps list : List ℕ} 
     leaf-done x score′ w =
         let text = leafText s over n p in
         let same : textLeft s list rest x ≡ after =
-        ap (λ cs. leafLines (placedFrom s cs (leavesFrom s (drop (x .at) list) rest))) (w .into)
-        ∙ ap (λ i. leafLines (placedFrom s (late s left len) (leavesFrom s (drop i list) rest))) (w .at) in
+        ap (λ cs. entryLines (placedFrom s cs (leavesFrom s (drop (x .at) list) rest))) (w .into)
+        ∙ ap (λ i. entryLines (placedFrom s (late s left len) (leavesFrom s (drop i list) rest))) (w .at) in
         let size : length score′ ≡ length score = ap length (w .text) ∙ length-over-from (p .to) text score in
         let both = length-append text after in
         let whole = ap length text-leaf in

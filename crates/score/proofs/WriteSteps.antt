@@ -1,4 +1,4 @@
--- The steps of `write_sheet` and `write`: what a price tells by its number, and how long the text of a tree is.
+-- The steps of `write_priced` and `write`: what a price tells by its number, and how long the text of a tree is.
 use Prim.Native.Nat.{ℕ, _≤_, _<_}
 use mathlib.Core.Path.{_≡_, sym, ap, subst, _∙_}
 use mathlib.Core.Bool.{cond}
@@ -24,11 +24,12 @@ use Rattle.pricing.specs.Pricing as pricing
 use Rattle.pricing.specs.Pricing.{priced, noTree, priceSheet, pricedOf}
 use Rattle.pricing.specs.PricingLaws.{tree-priced, tree-or-none}
 use Rattle.score.specs.declared.Written.{Written}
+use Rattle.score.specs.Score.{treeText}
 use Rattle.score.specs.ScoreLaws.{textSize, score-length}
 use Rattle.score.specs.LeafRules.{leafRules, leaf-rules-most, leaf-rules-entries}
 use Rattle.score.specs.Writing.{Outcome, refusal, written, textWithin, writePriced, writeSheet, writeRead, writeText, writtenOf}
 use Rattle.score.specs.Writing.{scoreAfter}
-use Rattle.score.specs.Steps.{treeText, TextEntry, TextWritten}
+use Rattle.score.specs.Steps.{TextEntry, TextWritten}
 
 -- what an entry promises: its result and the score slice are those of the outcome
 abbrev pub Promised : Outcome → Written → (score score′ : List ℕ) → Type 0
@@ -84,8 +85,11 @@ module _ (s : Sheet) (list : List ℕ) (r : Priced) (e : r ≡ pricedOf (priceSh
 module _ {s : Sheet} {g : GrammarTable} {p : PlayingTable} {list : List ℕ} {r : Priced} (h : SheetHeld s g p) (t : OwnPrice s list r)
     (cells : List ℕ) (packed : (x : Grammar) → g ≡ grammarTable x → PackedRules x cells) (leaves : ℕ)
     (counted : (s : Sheet) → RulesHeld s cells → leaves ≡ leafRules s list) where
+  held : RulesHeld s cells
+  held = record { good = h .good .rules; rules = packed (s .grammar) (h .grammar) }
+
   leaves-are : leaves ≡ leafRules s list
-  leaves-are = counted s (record { good = h .good .rules; rules = packed (s .grammar) (h .grammar) })
+  leaves-are = counted s held
 
   onsets-are : p .count ≡ length (s .playing .onsets)
   unfolding playingTable
@@ -106,7 +110,7 @@ module _ {s : Sheet} {g : GrammarTable} {p : PlayingTable} {list : List ℕ} {r 
   size-is =
       omega (
         arith,
-        score-length s (h .good .onsets) list (t .valid) (s .playing .bars) (r .weight) (r .distance) (r .total),
+        score-length s (h .good .onsets) list (t .valid) (r .weight) (r .distance) (r .total),
         leaves-are,
         leaf-rules-entries s list (t .valid),
         onsets-are,
@@ -126,8 +130,9 @@ module _ {s : Sheet} {g : GrammarTable} {p : PlayingTable} {list : List ℕ} {r 
       (outcome (length score) ∙ ap (λ b. cond b (written text) (refusal 13 0)) no-room) x score e
 
   pub text-entry : (score : List ℕ) (size : ℕ) → size ≡ textSize leaves (p .count) → size ≤ length score
-      → TextEntry s g p list (r .weight) (r .distance) (r .total) score
-  text-entry score size q k = record { held = h; valid = t .valid; room = omega (arith, k, q, size-is) }
+      → TextEntry s cells p list (r .weight) (r .distance) (r .total) score
+  text-entry score size q k =
+      record { rules = held; good = h .good .onsets; playing = h .playing; valid = t .valid; room = omega (arith, k, q, size-is) }
 
   pub sheet-written : (score score′ : List ℕ) (size bytes : ℕ) → size ≡ textSize leaves (p .count) → size ≤ length score
       → TextWritten s list (r .weight) (r .distance) (r .total) bytes score score′

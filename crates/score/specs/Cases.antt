@@ -7,13 +7,14 @@ use mathlib.Core.List.{List, [], _∷_}
 use mathlib.Core.Option.{Option·elim}
 use borrow.Author.Tests.{le-leb, lt-leb}
 use Rattle.hextext.specs.Written.{lineText}
+use Rattle.hextext.specs.Fields.{bigEndian}
 use Rattle.sheet.specs.Literal.{textOf}
 use Rattle.sheet.specs.Cases.{S, sheetS, S-means}
 use Rattle.derivations.specs.Derivation.{onto}
 use Rattle.trees.specs.ValidTrees.{whose, inside, early, late, bars, placedFrom, distanceTo}
-use Rattle.trees.specs.Leaves.{leavesFrom, entriesOf}
+use Rattle.trees.specs.Leaves.{leavesFrom}
 use Rattle.pricing.specs.Pricing.{priced, noTree, priceSheet}
-use Rattle.score.specs.Score.{bigEndian, headLine, leafLine, leafLines, scoreText}
+use Rattle.score.specs.Score.{headLine, leafLine, leafLines, scoreText, treeText}
 use Rattle.score.specs.Writing.{Outcome, refusal, written, noRoom, textWithin, writePriced, writeSheet, writeRead, writeText}
 
 -- the three lines
@@ -23,7 +24,7 @@ linesOfS = textOf "54010000000000000440000000000000000800000000000003F0\n5300000
 abbrev treeOfS : List ℕ
 treeOfS = 1 ∷ 3 ∷ 3 ∷ []
 
-S-score : scoreText 1 8 1008 1088 (entriesOf sheetS treeOfS) ≡ linesOfS
+pub S-score : treeText sheetS (1 ∷ 3 ∷ 3 ∷ []) 8 1008 1088 ≡ linesOfS
 unfolding scoreText headLine leafLines leafLine bigEndian lineText leavesFrom bars placedFrom early late inside whose
 S-score = refl
 

@@ -10,7 +10,8 @@ use Rattle.hextext.specs.Written.{lineText}
 use Rattle.sheet.specs.declared.table.GrammarTable.{GrammarTable}
 use Rattle.sheet.specs.declared.table.PlayingTable.{PlayingTable}
 use Rattle.sheet.specs.Sheet.{Onset, Playing, Sheet}
-use Rattle.sheet.specs.Held.{pitchOf}
+use Rattle.sheet.specs.Good.{GoodOnsets}
+use Rattle.sheet.specs.Held.{pitchOf, playingTable}
 use Rattle.sheet.specs.Accepted.{SheetHeld}
 use Rattle.derivations.specs.Derivation.{Item, Price, derive}
 use Rattle.trees.specs.ValidTrees.{early, late, Entry, placedFrom, ValidTree}
@@ -20,8 +21,10 @@ use Rattle.trees.specs.LeafBounds.{InOneBar}
 use Rattle.expansions.specs.declared.Interval.{Interval}
 use Rattle.expansions.specs.Tables.{RulesHeld, UnitsHeld}
 use Rattle.expansions.specs.Items.{firstAt, itemOf}
+use Rattle.pricing.specs.declared.Priced.{Priced}
+use Rattle.pricing.specs.Pricing.{priceSheet, pricedOf}
 use Rattle.score.specs.declared.tree.Place.{Place}
-use Rattle.score.specs.Score.{bigEndian, leafLine, leafLines, scoreText}
+use Rattle.score.specs.Score.{ScoreLeaf, leafLine, scoreLeaf, entryLines, treeText}
 
 -- ---- tables that hold a sheet
 
@@ -35,12 +38,9 @@ pub record OnsetsHeld (s : Sheet) (us ps : List ℕ) : Type 0 where
 
 -- ---- a leaf's line
 
--- the bytes of a line before its pitches, and all of them
-unfoldable pub frontOf : (left len n placed : ℕ) → List ℕ
-frontOf left len n placed = 0x53 ∷ bigEndian 4 left ++ bigEndian 2 len ++ (n ∷ placed ∷ [])
-
-unfoldable pub lineOf : (left len n : ℕ) → (pitches : List ℕ) → List ℕ
-lineOf left len n ps = 0x53 ∷ bigEndian 4 left ++ bigEndian 2 len ++ (n ∷ length ps ∷ ps)
+-- the leaf over an interval, with these pitches placed
+abbrev pub leafOver : Interval → (n : ℕ) → (pitches : List ℕ) → ScoreLeaf
+leafOver over n ps = record { left = over .left .0; len = over .len .0; n = n; pitches = ps }
 
 -- a line in 44 bytes from the front, with 0 in the places that are left, and how many bytes it has
 pub record LineHeld (l : List ℕ) (count : ℕ) (bytes : List ℕ) : Type 0 where
@@ -68,7 +68,7 @@ entryAt s over n p =
     }
 
 abbrev pub leafText : Sheet → Interval → (n : ℕ) → Place → List ℕ
-leafText s over n p = lineText (leafLine (entryAt s over n p))
+leafText s over n p = lineText (leafLine (scoreLeaf (entryAt s over n p)))
 
 -- what `write_leaf` is given: its line has room
 pub record LeafEntry (s : Sheet) (us ps : List ℕ) (over : Interval) (n : ℕ) (p : Place) (score : List ℕ) : Type 0 where
@@ -89,7 +89,7 @@ pub record LeafWritten (s : Sheet) (over : Interval) (n : ℕ) (p r : Place) (sc
 
 -- the lines of the leaves that are left: the list is read from place p on against the items
 abbrev pub textLeft : Sheet → (list : List ℕ) → List Item → Place → List ℕ
-textLeft s list gs p = leafLines (placedFrom s (carriedInto s p) (leavesFrom s (drop (p .at) list) gs))
+textLeft s list gs p = entryLines (placedFrom s (carriedInto s p) (leavesFrom s (drop (p .at) list) gs))
 
 -- from place p on the list is read against the items, and the score has room for the lines that are left
 pub record Ahead (s : Sheet) (list : List ℕ) (left : ℕ) (gs : List Item) (p : Place) (score : List ℕ) : Type 0 where
@@ -126,20 +126,18 @@ pub record BarsEntry (s : Sheet) (cells us ps list : List ℕ) (count to : ℕ) 
   pub onsets : OnsetsHeld s us ps
   pub bars : count ≡ s .playing .bars
   pub valid : ValidTree s list
-  pub room : to + length (leafLines (entriesOf s list)) ≤ length score
+  pub room : to + length (entryLines (entriesOf s list)) ≤ length score
 
 -- and what it does
 pub record BarsWritten (s : Sheet) (list : List ℕ) (to r : ℕ) (score score′ : List ℕ) : Type 0 where
-  pub text : score′ ≡ overFrom to (leafLines (entriesOf s list)) score
-  pub end : r ≡ to + length (leafLines (entriesOf s list))
-
--- the score lines of a list with this R, D and total
-abbrev pub treeText : Sheet → (list : List ℕ) → (R D total : ℕ) → List ℕ
-treeText s list R D total = scoreText (s .playing .bars) R D total (entriesOf s list)
+  pub text : score′ ≡ overFrom to (entryLines (entriesOf s list)) score
+  pub end : r ≡ to + length (entryLines (entriesOf s list))
 
 -- what `write_text` is given: the tables hold the sheet, the list is a valid tree, and its text has room
-pub record TextEntry (s : Sheet) (g : GrammarTable) (p : PlayingTable) (list : List ℕ) (R D total : ℕ) (score : List ℕ) : Type 0 where
-  pub held : SheetHeld s g p
+pub record TextEntry (s : Sheet) (cells : List ℕ) (p : PlayingTable) (list : List ℕ) (R D total : ℕ) (score : List ℕ) : Type 0 where
+  pub rules : RulesHeld s cells
+  pub good : GoodOnsets (s .playing)
+  pub playing : p ≡ playingTable (s .playing)
   pub valid : ValidTree s list
   pub room : length (treeText s list R D total) ≤ length score
 
@@ -147,3 +145,8 @@ pub record TextEntry (s : Sheet) (g : GrammarTable) (p : PlayingTable) (list : L
 pub record TextWritten (s : Sheet) (list : List ℕ) (R D total r : ℕ) (score score′ : List ℕ) : Type 0 where
   pub text : score′ ≡ over (treeText s list R D total) score
   pub end : r ≡ length (treeText s list R D total)
+
+-- what `write_priced` is given: the tables hold the sheet, and the price is what pricing the list gives
+pub record PricedEntry (s : Sheet) (g : GrammarTable) (p : PlayingTable) (list : List ℕ) (price : Priced) : Type 0 where
+  pub held : SheetHeld s g p
+  pub own : price ≡ pricedOf (priceSheet s list)

@@ -8,11 +8,10 @@ use Rattle.slices.specs.Over.{over}
 use Rattle.sheet.specs.Sheet.{Sheet}
 use Rattle.sheet.specs.Reading.{refused, accepted, readSheet}
 use Rattle.sheet.specs.Reading as reading
-use Rattle.trees.specs.Leaves.{entriesOf}
 use Rattle.pricing.specs.Pricing as pricing
 use Rattle.pricing.specs.Pricing.{priceSheet}
 use Rattle.score.specs.declared.Written as answer
-use Rattle.score.specs.Score.{scoreText}
+use Rattle.score.specs.Score.{treeText}
 
 -- what writing gives: a refusal, by its number and its line, or the score lines
 pub data Outcome : Type 0 where
@@ -30,8 +29,7 @@ textWithin room text = cond (leb (length text) room) (written text) noRoom
 -- "Writing: 12, 13": pricing's refusal comes first, and a tree's lines have its own R, D and total
 abbrev pub writePriced : Sheet → (list : List ℕ) → (room : ℕ) → pricing.Outcome → Outcome
 writePriced s list room (pricing.refusal k n) = refusal k n
-writePriced s list room (pricing.priced nodes R D total) =
-    textWithin room (scoreText (s .playing .bars) R D total (entriesOf s list))
+writePriced s list room (pricing.priced nodes R D total) = textWithin room (treeText s list R D total)
 
 unfoldable pub writeSheet : Sheet → (list : List ℕ) → (room : ℕ) → Outcome
 unfolding priceSheet textWithin

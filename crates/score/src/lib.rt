@@ -8,7 +8,7 @@ ghost use Rattle.score.specs.ScoreLaws.{textSize};
 ghost use Rattle.score.specs.LeafRules.{leafOne, leafRules};
 ghost use Rattle.score.specs.Writing.{refusal, writeSheet, writeText, writtenOf, scoreAfter};
 ghost use Rattle.expansions.specs.Tables.{RulesHeld};
-ghost use Rattle.score.specs.Steps.{TextEntry, TextWritten};
+ghost use Rattle.score.specs.Steps.{TextEntry, TextWritten, PricedEntry};
 
 mod line;
 mod tree;
@@ -17,6 +17,7 @@ use expansions::pack_rules;
 use expansions::pack_units;
 use expansions::rule_at;
 use line::head_line;
+use pricing::Priced;
 use sheet::GrammarTable;
 use sheet::PlayingTable;
 use sheet::Rule;
@@ -67,25 +68,25 @@ fn count_leaves(rules: &[u64; 64], list: &[u8]) -> usize
 }
 
 // Writes the score lines of a valid tree with its R, D and total; gives the number of bytes.
-fn write_text(
-    grammar: GrammarTable,
+fn write_text<'a>(
+    rules: &'a [u64; 64],
     playing: PlayingTable,
-    list: &[u8],
+    list: &'a [u8],
     weight: u64,
     distance: u64,
     total: u64,
     score: &mut [u8],
 ) -> usize
-    requires { ⌜ ((s : Sheet) × TextEntry s grammar playing (now list) weight distance total (now score)) ⌝ }
-    ensures { λ r. ⌜ ((s : Sheet) → TextEntry s grammar playing (now (list .entry)) weight distance total (now (score .entry))
+    requires { ⌜ ((s : Sheet) × TextEntry s (now rules) playing (now list) weight distance total (now score)) ⌝ }
+    ensures { λ r. ⌜ ((s : Sheet)
+        → TextEntry s (now (rules .entry)) playing (now (list .entry)) weight distance total (now (score .entry))
         → TextWritten s (now (list .entry)) weight distance total r (now (score .entry)) (now (score .exit))) ⌝ }
 {
-    let rules = pack_rules(grammar);
     let units = pack_units(playing);
     let bars = playing.bars;
     let head = head_line(bars, total, weight, distance);
     let to = hextext::write_line(&head, score, 0);
-    write_bars(&rules, &units, &playing.pitches, list, bars, to, score)
+    write_bars(rules, &units, &playing.pitches, list, bars, to, score)
 }
 
 fn refused(number: u8, line: usize) -> Written
@@ -106,6 +107,39 @@ fn text_size(leaves: usize, onsets: usize) -> usize
     53 + 19 * leaves + 2 * onsets
 }
 
+// Writes the score lines of a list against a sheet as it was read, where the list's price is at hand: the refusal that it tells, 13 where
+// the slice is short.
+pub fn write_priced(
+    grammar: GrammarTable,
+    playing: PlayingTable,
+    list: &[u8],
+    price: Priced,
+    score: &mut [u8],
+) -> Written
+    requires { ⌜ ((s : Sheet) × PricedEntry s grammar playing (now list) price) ⌝ }
+    ensures { λ r. ⌜ ((s : Sheet) → PricedEntry s grammar playing (now (list .entry)) price
+        → (r ≡ writtenOf (writeSheet s (now (list .entry)) (length (now (score .entry)))))
+        × (now (score .exit) ≡ scoreAfter (writeSheet s (now (list .entry)) (length (now (score .entry)))) (now (score .entry)))) ⌝ }
+{
+    let number = price.number;
+    if number != 0 {
+        return refused(number, price.line);
+    }
+    let rules = pack_rules(grammar);
+    let leaves = count_leaves(&rules, list);
+    if score.len() < text_size(leaves, playing.count) {
+        return refused(13, 0);
+    }
+    let weight = price.weight;
+    let distance = price.distance;
+    let bytes = write_text(&rules, playing, list, weight, distance, price.total, score);
+    Written {
+        number: 0,
+        line: 0,
+        bytes,
+    }
+}
+
 // Writes the score lines of a list against a sheet as it was read: 12 where the list is no valid tree, 13 where the slice is short.
 pub fn write_sheet(
     grammar: GrammarTable,
@@ -119,23 +153,7 @@ pub fn write_sheet(
         × (now (score .exit) ≡ scoreAfter (writeSheet s (now (list .entry)) (length (now (score .entry)))) (now (score .entry)))) ⌝ }
 {
     let price = pricing::price_sheet(grammar, playing, list);
-    let number = price.number;
-    if number != 0 {
-        return refused(number, price.line);
-    }
-    let rules = pack_rules(grammar);
-    let leaves = count_leaves(&rules, list);
-    if score.len() < text_size(leaves, playing.count) {
-        return refused(13, 0);
-    }
-    let weight = price.weight;
-    let distance = price.distance;
-    let bytes = write_text(grammar, playing, list, weight, distance, price.total, score);
-    Written {
-        number: 0,
-        line: 0,
-        bytes,
-    }
+    write_priced(grammar, playing, list, price, score)
 }
 
 // Writes the score lines of a list against the sheet that a text means.

@@ -2,25 +2,11 @@
 ghost use mathlib.Core.Path.{_≡_};
 ghost use Prim.Native.Nat.{_+_, _≤_};
 ghost use lib.ListN.{length, take, drop, replicate};
-ghost use Rattle.slices.specs.Over.{overFrom};
 ghost use Rattle.slices.specs.Pad.{pad};
-ghost use Rattle.score.specs.Score.{bigEndian, headLine};
-ghost use Rattle.score.specs.Steps.{frontOf, lineOf, LineHeld};
+ghost use Rattle.score.specs.Score.{headLine, leafFront, leafLine};
+ghost use Rattle.score.specs.Steps.{leafOver, LineHeld};
 use expansions::Interval;
-
-// Puts the last `count` bytes of a number into a line, the most significant first.
-fn put_field(line: &mut [u8], at: usize, count: usize, x: u64)
-    requires { ⌜ at + count ≤ length (now line) ⌝ }
-    ensures { λ r. ⌜ now (line .exit) ≡ overFrom at (bigEndian count x) (now (line .entry)) ⌝ }
-{
-    let mut rest = x;
-    let mut left = count;
-    while 0 < left {
-        left -= 1;
-        line[at + left] = (rest % 256) as u8;
-        rest = rest / 256;
-    }
-}
+use hextext::put_field;
 
 // The bytes of the head.
 pub fn head_line(bars: u8, total: u64, weight: u64, distance: u64) -> [u8; 26]
@@ -38,7 +24,7 @@ pub fn head_line(bars: u8, total: u64, weight: u64, distance: u64) -> [u8; 26]
 // Puts the bytes of a leaf's line before the pitches into a line of zeros.
 fn leaf_front(line: &mut [u8], over: Interval, n: u8, placed: usize)
     requires { ⌜ (placed ≤ 35) × (now line ≡ replicate 44 0) ⌝ }
-    ensures { λ r. ⌜ now (line .exit) ≡ pad 44 0 (frontOf (over .left .0) (over .len .0) n placed) ⌝ }
+    ensures { λ r. ⌜ now (line .exit) ≡ pad 44 0 (leafFront (over .left .0) (over .len .0) n placed) ⌝ }
 {
     line[0] = 0x53;
     put_field(line, 1, 4, over.left.0 as u64);
@@ -58,8 +44,7 @@ pub fn leaf_line(
     placed: usize,
 ) -> usize
     requires { ⌜ (placed ≤ 35) × (length (now pitches) ≡ 512) × (first + placed ≤ 512) × (now line ≡ replicate 44 0) ⌝ }
-    ensures { λ r. ⌜ LineHeld (lineOf (over .left .0) (over .len .0) n (take placed (drop first (now (pitches .entry))))) r
-        (now (line .exit)) ⌝ }
+    ensures { λ r. ⌜ LineHeld (leafLine (leafOver over n (take placed (drop first (now (pitches .entry)))))) r (now (line .exit)) ⌝ }
 {
     leaf_front(line, over, n, placed);
     let mut i: usize = 0;

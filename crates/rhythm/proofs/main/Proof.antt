@@ -1,13 +1,13 @@
 -- `main` is safe: what the entry shows stands in the score slice, and a refusal's line has nine bytes. Assumes nothing of its own.
 use mathlib.Core.Path.{refl, sym}
 use lib.Seq.{length-take-le}
-use Rattle.finding.specs.ReportingLaws.{line-stays, score-fits}
+use Rattle.reporting.specs.ReportingLaws.{line-stays, score-fits}
 use borrow.Author.Needs.{needs}
 use Rattle.rhythm.proofs.main.Statement.{statement}
 use Rattle.rhythm.proofs.main.Tie as tie
 use Rattle.rhythm.proofs.main.Reads as reads
 use Rattle.rhythm.proofs.main.Lts as lts
-use Rattle.finding.proofs.report.Reads as report-reads
+use Rattle.reporting.proofs.report.Reads as report-reads
 use Rattle.io.proofs.read_full.Reads as read-full-reads
 use Rattle.io.proofs.write_all.Reads as write-all-reads
 

@@ -4,11 +4,10 @@ use borrow.Author.Needs.{needs}
 use Rattle.score.proofs.write_text.Statement.{statement}
 use Rattle.score.proofs.write_text.Tie as tie
 
-pack-rules-requires : tie.Need-pack-rules-requires
-pack-rules-requires c κs = search needs
-
 pack-units-requires : tie.Need-pack-units-requires
-pack-units-requires c κs = few-onsets (c .before .before .before .pre .1)
+pack-units-requires c κs =
+    let start = c .before .before in
+    few-onsets (start .pre .1)
 
 head-line-requires : tie.Need-head-line-requires
 head-line-requires c κs = search needs
@@ -21,18 +20,13 @@ write-line-requires c κs = search needs
 
 write-bars-requires : tie.Need-write-bars-requires
 write-bars-requires c κs =
-    let write-line = c .before .before .before .before .before .before .before .write-line in
-    let head-line = c .before .before .before .before .before .before .before .before .before .before .head-line in
-    let further = c .before .before .before .before .before .before .before .before in
-    let pack-units = further .before .before .before .pack-units in
-    let pack-rules = further .before .before .before .before .pack-rules in
-    let start = further .before .before .before .before .before .before .before in
+    let write-line = c .before .before .before .before .before .before .write-line in
+    let head-line = c .before .before .before .before .before .before .before .before .before .head-line in
+    let pack-units = c .before .before .before .before .before .before .before .before .before .before .pack-units in
+    let start = c .before .before .before .before .before .before .before .before .before .before .before .before .before in
     let s = start .pre .0 in
-    let h = start .pre .1 in (
-      s,
-      bars-given h _ (head-line .ensures) _ _ (write-line .ensures) _ _ (pack-rules .ensures (s .grammar) (h .held .grammar))
-          (pack-units .ensures (s .playing) (h .held .good .onsets) (h .held .playing)),
-    )
+    let h = start .pre .1 in
+    (s, bars-given h _ (head-line .ensures) _ _ (write-line .ensures) _ (pack-units .ensures (s .playing) (h .good) (h .playing)))
 
 same-length : tie.Need-same-length
 same-length c = search needs
@@ -40,20 +34,17 @@ same-length c = search needs
 returns : tie.Need-returns
 returns c =
     let write-bars = c .before .before .write-bars in
-    let write-line = c .before .before .before .before .before .before .before .before .before .before .write-line in
-    let further = c .before .before .before .before .before .before .before .before in
-    let head-line = further .before .before .before .before .before .head-line in
-    let pack-units = further .before .before .before .before .before .before .pack-units in
-    let pack-rules = further .before .before .before .before .before .before .before .pack-rules in
+    let write-line = c .before .before .before .before .before .before .before .before .before .write-line in
+    let head-line = c .before .before .before .before .before .before .before .before .before .before .before .before .head-line in
+    let pack-units = c .before .before .before .before .before .before .before .before .before .before .before .before .before .pack-units in
     λ s h. text-done h _ (head-line .ensures) _ _ (write-line .ensures) _ _
-    (write-bars .ensures s (bars-given h _ (head-line .ensures) _ _ (write-line .ensures) _ _
-    (pack-rules .ensures (s .grammar) (h .held .grammar)) (pack-units .ensures (s .playing) (h .held .good .onsets) (h .held .playing))))
+    (write-bars .ensures s (bars-given h _ (head-line .ensures) _ _ (write-line .ensures) _
+    (pack-units .ensures (s .playing) (h .good) (h .playing))))
 
 pub write-text-spec : {M : Type 1} → statement M
 write-text-spec =
     tie.close
     (tie.spec
-    pack-rules-requires
     pack-units-requires
     head-line-requires
     slice-aggregate-write-line

@@ -8,14 +8,22 @@ use native.Mathlib.Omega.{arith}
 use borrow.Author.Tests.{le-leb, lt-leb}
 use lib.ListN.{length}
 use Rattle.hextext.specs.Laws.{length-line}
-use Rattle.score.specs.Score.{bigEndian}
-use Rattle.score.specs.ScoreLaws.{length-big-endian}
+use Rattle.hextext.specs.Fields.{bigEndian, length-big-endian}
 use Rattle.slices.specs.Over.{length-over, take-over}
-use Rattle.finding.specs.declared.Shown.{Shown}
-use Rattle.finding.specs.declared.Shown.the-variants.{Score, Line}
-use Rattle.finding.specs.Finding.{Outcome, refusal, noTree, found, findText}
-use Rattle.finding.specs.Reporting.{refusalLine, Page, scorePage, refusalPage, pageText, shownOf, printed, scoreWith, lineWith}
-use Rattle.finding.specs.Reporting.{pageWithin, Prints, Printed, Reports}
+use Rattle.reporting.specs.declared.Shown.{Shown}
+use Rattle.reporting.specs.declared.Shown.the-variants.{Score, Line}
+use Rattle.sheet.specs.Bounds.{refused-within}
+use Rattle.finding.specs.Finding.{Outcome, refusal, noTree, found, findText, lineOf}
+use Rattle.finding.specs.Outcomes.{by-lengths, by-text}
+use Rattle.reporting.specs.Reporting.{refusalLine, Page, scorePage, refusalPage, pageText, shownOf, printed, scoreWith, lineWith}
+use Rattle.reporting.specs.Reporting.{pageWithin, Prints, Printed, Reports}
+
+-- a refusal's line fits the two bytes that it has there
+pub line-most : (text : List ℕ) (tree work : ℕ) → lineOf (findText text tree work) ≤ 16385
+line-most text tree work =
+    by-text text tree work (λ o. lineOf o ≤ 16385) (λ k n e. refused-within text k n e .1)
+    (λ d s e. by-lengths s tree work (λ o. lineOf o ≤ 16385)
+    (λ q. omega arith) (λ q. omega arith) (λ t q. omega arith) (λ t q. omega arith))
 
 -- the line of a refusal has nine bytes
 pub refusal-line-bytes : (k n : ℕ) → length (refusalLine k n) ≡ 9

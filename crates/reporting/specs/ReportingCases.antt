@@ -15,20 +15,19 @@ use Rattle.sizes.specs.Sizes.{treeBytes, workCells, lengthCount, mostInBar, lar
 use Rattle.derivations.specs.Derivation.{onto}
 use Rattle.derivations.specs.Minima.{lowest}
 use Rattle.derivations.specs.Table.{via, forward}
-use Rattle.trees.specs.ValidTrees.{whose, inside, early, late, bars, placedFrom, distanceTo}
+use Rattle.trees.specs.ValidTrees.{whose, distanceTo}
 use Rattle.trees.specs.LeastTotal.{leastTotal}
-use Rattle.trees.specs.Leaves.{leavesFrom, entriesOf}
 use Rattle.trees.specs.Found.{LeastTree}
 use Rattle.pricing.specs.Pricing.{priceSheet}
-use Rattle.score.specs.Score.{bigEndian, headLine, leafLine, leafLines, scoreText}
-use Rattle.score.specs.Cases.{linesOfS}
-use Rattle.finding.specs.declared.Shown.{Shown}
+use Rattle.hextext.specs.Fields.{bigEndian}
+use Rattle.score.specs.Cases.{linesOfS, S-score}
+use Rattle.reporting.specs.declared.Shown.{Shown}
 use Rattle.finding.specs.Finding.{hasTree, Outcome, found, findText}
 use Rattle.finding.specs.Outcomes.{one-found, sheet-found}
 use Rattle.finding.specs.Cases.{onlyTree, everyList}
 use Rattle.finding.specs.FindingCases.{one-least}
-use Rattle.finding.specs.Reporting.{Page, refusalLine, pageText, treeWith, pageWithin, printed, PrintsTree, Printed, Reports}
-use Rattle.finding.specs.ReportingLaws.{within-lines, within-short}
+use Rattle.reporting.specs.Reporting.{Page, refusalLine, pageText, treeWith, pageWithin, printed, PrintsTree, Printed, Reports}
+use Rattle.reporting.specs.ReportingLaws.{within-lines, within-short}
 
 -- ---- lines of refusals
 
@@ -50,10 +49,6 @@ S-room = refl
 S-has-tree : hasTree sheetS ≡ true
 unfolding hasTree leastTotal whose distanceTo Option·elim lowest via forward onto
 S-has-tree = refl
-
-S-lines : scoreText 1 8 1008 1088 (entriesOf sheetS (1 ∷ 3 ∷ 3 ∷ [])) ≡ linesOfS
-unfolding scoreText headLine leafLines leafLine bigEndian lineText leavesFrom bars placedFrom early late inside whose
-S-lines = refl
 
 -- the least tree of S
 S-least : (bytes : List ℕ) (R D : ℕ) → LeastTree sheetS bytes R D → (bytes ≡ 1 ∷ 3 ∷ 3 ∷ []) × (R ≡ 8) × (D ≡ 1008)
@@ -81,7 +76,7 @@ module _ (tree treeAfter work workAfter score scoreAfter line lineAfter : List �
       go : (p : PrintsTree sheetS tree treeAfter score scoreAfter line lineAfter shown)
           → (p .bytes ≡ 1 ∷ 3 ∷ 3 ∷ []) × (p .weight ≡ 8) × (p .distance ≡ 1008)
           → (printed shown scoreAfter lineAfter ≡ pageText page) × (treeAfter ≡ treeWith page (1 ∷ 3 ∷ 3 ∷ []) tree)
-      go p (eb, er, ed) = (p .page .text ∙ rw (eb, er, ed, S-lines) refl, p .tree-is ∙ rw (eb, er, ed, S-lines) refl)
+      go p (eb, er, ed) = (p .page .text ∙ rw (eb, er, ed, S-score) refl, p .tree-is ∙ rw (eb, er, ed, S-score) refl)
 
   pub S-printed : 95 ≤ length score → printed shown scoreAfter lineAfter ≡ linesOfS
   S-printed h = S-shown .0 ∙ ap pageText (within-lines (length score) linesOfS h)

@@ -2,8 +2,8 @@
 use Prim.Native.Nat.{ℕ}
 use mathlib.Core.List.{List}
 use Rattle.slices.specs.Over.{over}
-use Rattle.finding.specs.declared.Shown.{Shown}
-use Rattle.finding.specs.declared.Shown.the-variants.{Score, Line}
+use Rattle.reporting.specs.declared.Shown.{Shown}
+use Rattle.reporting.specs.declared.Shown.the-variants.{Score, Line}
 
 -- the tree slice after an answer: score lines leave it as it is, and with a refusal `front`, what stood there before, is put back
 abbrev pub restored : Shown → (front tree : List ℕ) → List ℕ

@@ -1,10 +1,10 @@
 -- `report` meets its contract: the front of the tree slice is copied aside, and put back with a refusal. Assumes nothing.
 use mathlib.Core.Path.{sym}
 use lib.Seq.{length-take-le}
-use Rattle.finding.proofs.ReportSteps.{aside-room, reported}
+use Rattle.reporting.proofs.ReportSteps.{aside-room, reported}
 use borrow.Author.Needs.{needs}
-use Rattle.finding.proofs.report.Statement.{statement}
-use Rattle.finding.proofs.report.Tie as tie
+use Rattle.reporting.proofs.report.Statement.{statement}
+use Rattle.reporting.proofs.report.Tie as tie
 
 front-requires : tie.Need-front-requires
 front-requires c κs = search needs

@@ -11,11 +11,11 @@ use Rattle.hextext.specs.Written.{lineText}
 use Rattle.sheet.specs.Sheet.{Sheet}
 use Rattle.trees.specs.ValidTrees.{totalOf}
 use Rattle.trees.specs.Found.{LeastTree}
-use Rattle.trees.specs.Leaves.{entriesOf}
-use Rattle.score.specs.Score.{bigEndian, scoreText}
-use Rattle.finding.specs.declared.Shown.{Shown}
-use Rattle.finding.specs.declared.Shown.the-variants.{Score, Line}
+use Rattle.hextext.specs.Fields.{bigEndian}
+use Rattle.score.specs.Score.{treeText}
+use Rattle.reporting.specs.declared.Shown.{Shown}
+use Rattle.reporting.specs.declared.Shown.the-variants.{Score, Line}
 use Rattle.finding.specs.Finding.{Outcome, refusal, noTree, found, findText, cleared}
 
 -- "one line `52`, the refusal (1) and the line (2)"
 unfoldable pub refusalLine : (number line : ℕ) → List ℕ
@@ -62,8 +62,7 @@ pageWithin room text = cond (leb (length text) room) (scorePage text) (refusalPa
 
 -- the score lines of a tree, as far as the score slice has room
 abbrev pub pageOf : (s : Sheet) → (bytes : List ℕ) → (weight distance room : ℕ) → Page
-pageOf s bytes weight distance room =
-    pageWithin room (scoreText (s .playing .bars) weight distance (totalOf s weight distance) (entriesOf s bytes))
+pageOf s bytes weight distance room = pageWithin room (treeText s bytes weight distance (totalOf s weight distance))
 
 -- the answer, the score slice and the line slice of a page, and the bytes to print
 pub record Prints (page : Page) (score scoreAfter line lineAfter : List ℕ) (answer : Shown) : Type 0 where
@@ -81,7 +80,8 @@ pub record PrintsTree (s : Sheet) (tree treeAfter score scoreAfter line lineAfte
   pub tree-is : treeAfter ≡ treeWith (pageOf s bytes weight distance (length score)) bytes tree
   pub page : Prints (pageOf s bytes weight distance (length score)) score scoreAfter line lineAfter answer
 
--- every slice and the answer, by what finding comes to
+-- Every slice and the answer, by what finding comes to. Document 01 has "every slice keeps its bytes, except work after 11"; here the
+-- required work cells are 0 after 13 too, because a tree was found first: for the program, whose cells are 0 before, that is the same.
 abbrev pub Printed : Outcome → (tree treeAfter work workAfter score scoreAfter line lineAfter : List ℕ) → Shown → Type 0
 Printed (refusal k n) tree treeAfter work workAfter score scoreAfter line lineAfter answer =
     Prints (refusalPage k n) score scoreAfter line lineAfter answer × (treeAfter ≡ tree) × (workAfter ≡ work)

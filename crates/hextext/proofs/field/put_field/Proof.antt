@@ -6,10 +6,10 @@ use mathlib.Core.Path.{_≡_, refl, _∙_}
 use native.Mathlib.Omega.{arith}
 use lib.ListN.{length, length-set}
 use Rattle.slices.specs.Over.{overFrom}
-use Rattle.score.specs.Score.{bigEndian}
-use Rattle.score.proofs.LineSteps.{field-more, field-none}
-use Rattle.score.proofs.line.put_field.Statement.{statement}
-use Rattle.score.proofs.line.put_field.Tie as tie
+use Rattle.hextext.specs.Fields.{bigEndian}
+use Rattle.hextext.proofs.FieldSteps.{field-more, field-none}
+use Rattle.hextext.proofs.field.put_field.Statement.{statement}
+use Rattle.hextext.proofs.field.put_field.Tie as tie
 
 abbrev Inv-loop : tie.InvT-loop
 Inv-loop line₀ at count x rest₀ left₀ line rest left =

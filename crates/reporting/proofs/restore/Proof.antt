@@ -1,7 +1,7 @@
 -- `restore` meets its contract, by the answer's two cases. Assumes nothing.
 use borrow.Author.Needs.{needs}
-use Rattle.finding.proofs.restore.Statement.{statement}
-use Rattle.finding.proofs.restore.Tie as tie
+use Rattle.reporting.proofs.restore.Statement.{statement}
+use Rattle.reporting.proofs.restore.Tie as tie
 
 enum-told : tie.Need-enum-told
 enum-told c = search needs

@@ -1,0 +1,234 @@
+-- What `refusal_line` composes, and what each way out of `compose_sheet` gives, by what `find_sheet` and `write_priced` told; then the same of
+-- `compose`, by what `read` told. Then what `report` copies: the front of the tree slice, and with a refusal back again. Assumes nothing.
+use Prim.Native.Nat.{ℕ, _≤_, _<_}
+use mathlib.Core.Path.{_≡_, refl, sym, ap, subst, _∙_}
+use mathlib.Core.List.{List, [], _∷_}
+use native.Mathlib.Decide.{decLe, decLt}
+use native.Mathlib.Omega.{arith}
+use borrow.Author.Tests.{le-leb, lt-leb}
+use lib.ListN.{length, take, replicate, length-replicate}
+use lib.Seq.{length-take-le, take-all, take-take}
+use Rattle.slices.specs.Over.{over, overFrom, over-nil, over-back, take-over}
+use Rattle.hextext.specs.Written.{lineText, pairsOf, hasRoom, LineWritten}
+use Rattle.hextext.specs.Fields.{bigEndian}
+use Rattle.sheet.specs.declared.table.GrammarTable.{GrammarTable}
+use Rattle.sheet.specs.declared.table.PlayingTable.{PlayingTable}
+use Rattle.sheet.specs.declared.table.Reading.{Reading}
+use Rattle.sheet.specs.Sheet.{Sheet}
+use Rattle.sheet.specs.Reading.{readSheet}
+use Rattle.sheet.specs.Held.{readingOf}
+use Rattle.sheet.specs.Accepted.{SheetHeld, AcceptedAs, refused-reading}
+use Rattle.trees.specs.ValidTrees.{totalOf}
+use Rattle.trees.specs.Theorems.{nodes-most}
+use Rattle.pricing.specs.declared.Priced.{Priced}
+use Rattle.pricing.specs.PricingLaws.{tree-priced}
+use Rattle.score.specs.declared.Written.{Written}
+use Rattle.score.specs.Score.{treeText}
+use Rattle.score.specs.Writing as writing
+use Rattle.score.specs.Writing.{written, noRoom, textWithin, writePriced, writeSheet, writtenOf, scoreAfter}
+use Rattle.score.specs.Steps.{PricedEntry}
+use Rattle.finding.specs.Finding.{Outcome, refusal, noTree, found, findSheet, Gives}
+use Rattle.finding.specs.Outcomes.{refused-found, sheet-found}
+use Rattle.finding.specs.FindingLaws.{TreeHandedBack, tree-handed-back}
+use Rattle.reporting.specs.declared.Shown.{Shown}
+use Rattle.reporting.specs.declared.Shown.the-variants.{Score, Line}
+use Rattle.reporting.specs.Reporting.{refusalLine, Page, scorePage, refusalPage, treeWith, pageWithin, Prints, Printed, Reports}
+use Rattle.reporting.specs.Restoring.{restored}
+use Rattle.reporting.specs.ReportingLaws.{within-lines, within-short, prints}
+
+-- ---- `refusal_line`
+
+-- the field of a line's number, behind kind and number
+pub field-put : (k n : ℕ) (bytes : List ℕ) → bytes ≡ overFrom 2 (bigEndian 2 n) (0x52 ∷ k ∷ 0 ∷ 0 ∷ []) → bytes ≡ 0x52 ∷ k ∷ bigEndian 2 n
+unfolding bigEndian overFrom over
+field-put k n bytes e = e
+
+-- a line of four bytes fills nine cells
+pub line-composed : (k n : ℕ) (bytes out : List ℕ) (r : ℕ) → bytes ≡ 0x52 ∷ k ∷ bigEndian 2 n
+    → LineWritten bytes 0 (replicate 9 0) out r → out ≡ refusalLine k n
+unfolding refusalLine hasRoom lineText pairsOf overFrom over bigEndian
+line-composed k n bytes out r e w = (rw e at w) .text
+
+-- ---- `compose_sheet`
+
+-- what was written over the front of the tree slice is put back
+put-back : {tree treeAfter : List ℕ} (bs : List ℕ) → length bs ≤ 41024 → treeAfter ≡ over bs tree → (r : Shown) → r ≡ Line
+    → restored r (take 41024 tree) treeAfter ≡ tree
+put-back {tree} bs h e r q = rw (q, e) (over-back 41024 bs tree h)
+
+-- and where nothing was written
+kept-back : {tree treeAfter : List ℕ} → treeAfter ≡ tree → (r : Shown) → r ≡ Line → restored r (take 41024 tree) treeAfter ≡ tree
+kept-back {tree} same r q = put-back [] (omega arith) (same ∙ sym (over-nil tree)) r q
+
+-- the line of a refusal
+refused-page : (k n : ℕ) {score line lineAfter : List ℕ} {r : Shown} → r ≡ Line → lineAfter ≡ refusalLine k n
+    → Prints (refusalPage k n) score score line lineAfter r
+refused-page k n q e = prints (refusalPage k n) tt q refl e
+
+module _ {s : Sheet} {g : GrammarTable} {p : PlayingTable} (h : SheetHeld s g p) {tree treeAfter work workAfter : List ℕ} {x : Priced}
+    (f : Gives (findSheet s (length tree) (length work)) tree treeAfter work workAfter x) where
+  -- a refusal of finding
+  pub refusal-reported : (x .number ≡ 0 → ⊥) → (score line lineAfter : List ℕ) → lineAfter ≡ refusalLine (x .number) (x .line) → (r : Shown)
+      → r ≡ Line → Printed (findSheet s (length tree) (length work)) tree (restored r (take 41024 tree) treeAfter) work workAfter
+      score score line lineAfter r
+  refusal-reported nz score line lineAfter e r q = go (findSheet s (length tree) (length work)) f
+    where
+      page : (k n : ℕ) → x .number ≡ k → x .line ≡ n → Prints (refusalPage k n) score score line lineAfter r
+      page k n a b = refused-page k n q (rw (← a, ← b) e)
+
+      go : (o : Outcome) → Gives o tree treeAfter work workAfter x
+          → Printed o tree (restored r (take 41024 tree) treeAfter) work workAfter score score line lineAfter r
+      go (refusal k n) g = (page k n (g .number) (g .line), kept-back (g .result .0 .tree-kept) r q, g .result .1)
+      go (noTree s) g = (page 11 0 (g .number) (g .line), kept-back (g .result .0 .tree-kept) r q, g .result .1)
+      go (found s) g = absurd (nz (g .number))
+
+  -- a tree
+  module _ (z : x .number ≡ 0) where
+    abbrev back : TreeHandedBack s tree treeAfter work workAfter x
+    back = tree-handed-back s (h .duration) (h .good) f z
+
+    pub nodes-within : x .nodes ≤ length treeAfter
+    nodes-within = back .within
+
+    pub list-size : x .nodes ≡ length (take (x .nodes) treeAfter)
+    list-size = sym (length-take-le (x .nodes) treeAfter nodes-within)
+
+    abbrev bytes : List ℕ
+    bytes = take (x .nodes) treeAfter
+
+    pub priced-entry : PricedEntry s g p bytes x
+    priced-entry = record { held = h; own = back .own }
+
+    abbrev lines : List ℕ
+    lines = treeText s bytes (x .weight) (x .distance) (totalOf s (x .weight) (x .distance))
+
+    -- no tree has more bytes than are put back
+    few : length bytes ≤ 41024
+    few = nodes-most s (h .duration) (h .good) bytes (back .least .valid .valid)
+
+    -- writing gives its score lines, or 13
+    wrote : (room : ℕ) → writeSheet s bytes room ≡ textWithin room lines
+    unfolding writeSheet
+    wrote room = ap (writePriced s bytes room) (tree-priced s bytes _ _ (back .least .valid))
+
+    module _ (score scoreOut : List ℕ) (w : Written)
+        (told : (w ≡ writtenOf (writeSheet s bytes (length score)))
+        × (scoreOut ≡ scoreAfter (writeSheet s bytes (length score)) score)) where
+      abbrev room : ℕ
+      room = length score
+
+      -- by whether the slice has room
+      by-room : (P : writing.Outcome → Page → Type 0) → (length lines ≤ room → P (written lines) (scorePage lines))
+          → P noRoom (refusalPage 13 0) → P (writeSheet s bytes room) (pageWithin room lines)
+      unfolding textWithin
+      by-room P has short = elim (decLe (length lines) room) [
+        | yes h ↦ rw (wrote room, within-lines room lines h, le-leb (length lines) room h) (has h)
+        | no h ↦ let l : room < length lines = omega arith in rw (wrote room, within-short room lines l, lt-leb (length lines) room l) short
+      ]
+
+      abbrev Answers : Page → (line lineAfter : List ℕ) → Shown → Type 0
+      Answers p line lineAfter r = (restored r (take 41024 tree) treeAfter ≡ treeWith p bytes tree) × Prints p score scoreOut line lineAfter r
+
+      abbrev Reported : (line lineAfter : List ℕ) → Shown → Type 0
+      Reported line lineAfter r =
+          Printed (findSheet s (length tree) (length work)) tree (restored r (take 41024 tree) treeAfter) work workAfter score scoreOut line
+          lineAfter r
+
+      whole : (line lineAfter : List ℕ) (r : Shown) → Answers (pageWithin room lines) line lineAfter r → Reported line lineAfter r
+      whole line lineAfter r (t, p) =
+          subst (λ (o : Outcome). Printed o tree (restored r (take 41024 tree) treeAfter) work workAfter score scoreOut line lineAfter r)
+          (sym (back .outcome)) (
+            record {
+              bytes = bytes;
+              weight = x .weight;
+              distance = x .distance;
+              least = back .least;
+              tree-is = t;
+              page = p;
+            },
+            back .clear,
+          )
+
+      -- the score slice is short
+      pub short-reported : (w .number ≡ 0 → ⊥) → (line lineAfter : List ℕ) → lineAfter ≡ refusalLine (w .number) (w .line) → (r : Shown)
+          → r ≡ Line → Reported line lineAfter r
+      unfolding writtenOf scoreAfter
+      short-reported nz line lineAfter e r q =
+          whole line lineAfter r
+          (by-room (λ o p. w ≡ writtenOf o → scoreOut ≡ scoreAfter o score → Answers p line lineAfter r)
+          (λ h a b. absurd (nz (ap (λ (v : Written). v .number) a)))
+          (λ a b. (
+            put-back bytes few (back .written) r q,
+            prints (refusalPage 13 0) tt q b (e ∙ ap (λ (v : Written). refusalLine (v .number) (v .line)) a),
+          ))
+          (told .0) (told .1))
+
+      -- the score lines
+      pub score-reported : w .number ≡ 0 → (line : List ℕ) (r : Shown) → r ≡ Score (w .bytes) → Reported line line r
+      unfolding writtenOf scoreAfter
+      score-reported zw line r q =
+          whole line line r
+          (by-room (λ o p. w ≡ writtenOf o → scoreOut ≡ scoreAfter o score → Answers p line line r)
+          (λ h a b. (rw q (back .written), prints (scorePage lines) h (q ∙ ap (λ (v : Written). Score (v .bytes)) a) b refl))
+          (λ a b. let e : _≡_ {A = ℕ} 0 13 = sym zw ∙ ap (λ (v : Written). v .number) a in let f : ⊥ = omega arith in absurd f)
+          (told .0) (told .1))
+
+-- ---- `compose`
+
+-- a text that is refused
+pub text-refused : (text tree work score line lineAfter : List ℕ) (x : Reading) → x ≡ readingOf (readSheet text) → (x .number ≡ 0 → ⊥)
+    → (r : Shown) → r ≡ Line → lineAfter ≡ refusalLine (x .number) (x .line)
+    → Reports text tree (restored r (take 41024 tree) tree) work work score score line lineAfter r
+text-refused text tree work score line lineAfter x e nz r q l = record {
+  is = subst (λ (o : Outcome). Printed o tree (restored r (take 41024 tree) tree) work work score score line lineAfter r)
+      (sym (refused-found text _ _ (x .number) (x .line) (refused-reading text x e nz)))
+      (refused-page (x .number) (x .line) q l, kept-back refl r q, refl);
+}
+
+-- a text that means a sheet
+pub text-reported : {text tree treeAfter work workAfter score scoreAfter line lineAfter : List ℕ} {g : GrammarTable} {p : PlayingTable}
+    {r : Shown} → AcceptedAs text g p
+    → ((s : Sheet) → SheetHeld s g p
+    → Printed (findSheet s (length tree) (length work)) tree treeAfter work workAfter score scoreAfter line lineAfter r)
+    → Reports text tree treeAfter work workAfter score scoreAfter line lineAfter r
+text-reported {text} {tree} {treeAfter} {work} {workAfter} {score} {scoreAfter} {line} {lineAfter} {r = r} (d, s, e, h) f = record {
+  is = subst (λ (o : Outcome). Printed o tree treeAfter work workAfter score scoreAfter line lineAfter r)
+      (sym (sheet-found text _ _ d s e)) (f s h);
+}
+
+-- ---- `report`
+
+-- as much of a slice as a tree can be written over
+front-whole : (n : ℕ) (xs : List ℕ) → n ≤ 41024 → (n < 41024 → n ≡ length xs) → take n xs ≡ take 41024 xs
+front-whole n xs h e = elim (decLt n 41024) [
+  | yes l ↦ take-all n xs (omega (arith, e l)) ∙ sym (take-all 41024 xs (omega (arith, e l, l)))
+  | no l ↦ let same : n ≡ 41024 = omega arith in rw same refl
+]
+
+-- what was copied aside of a slice is its front
+copied-aside : (n : ℕ) (tree kept : List ℕ) → n ≤ length tree → n ≤ 41024 → (n < 41024 → n ≡ length tree)
+    → kept ≡ over (take n (take n tree)) (replicate 41024 0) → take n kept ≡ take 41024 tree
+copied-aside n tree kept fits h e k =
+    rw k (
+    ap (λ (m : ℕ). take m (over (take n (take n tree)) (replicate 41024 0))) (sym short)
+    ∙ take-over (take n (take n tree)) (replicate 41024 0) (omega (arith, short, h, length-replicate {A = ℕ} 41024 0))
+    ∙ take-take n n tree (omega arith)
+    ∙ front-whole n tree h e
+    )
+  where
+    short : length (take n (take n tree)) ≡ n
+    short = rw (take-take n n tree (omega arith)) (length-take-le n tree fits)
+
+-- there is room aside for the front of a slice
+pub aside-room : (n : ℕ) (tree : List ℕ) → n ≤ length tree → n ≤ 41024
+    → (n ≤ length (take n tree)) × (n ≤ length (replicate {A = ℕ} 41024 0))
+aside-room n tree fits h = (omega (arith, length-take-le n tree fits), omega (arith, h, length-replicate {A = ℕ} 41024 0))
+
+-- the answer of `compose`, with the tree slice restored
+pub reported : (between : List ℕ) {text tree treeAfter work workAfter score scoreAfter line lineAfter kept : List ℕ} {n : ℕ} {r : Shown}
+    → n ≤ length tree → n ≤ 41024 → (n < 41024 → n ≡ length tree) → kept ≡ over (take n (take n tree)) (replicate 41024 0)
+    → Reports text tree (restored r (take 41024 tree) between) work workAfter score scoreAfter line lineAfter r
+    → treeAfter ≡ restored r (take n kept) between → Reports text tree treeAfter work workAfter score scoreAfter line lineAfter r
+reported between {text} {tree} {treeAfter} {work} {workAfter} {score} {scoreAfter} {line} {lineAfter} {kept} {n} {r} fits h e k given a =
+    subst (λ (t : List ℕ). Reports text tree t work workAfter score scoreAfter line lineAfter r)
+    (sym (a ∙ ap (λ (front : List ℕ). restored r front between) (copied-aside n tree kept fits h e k))) given

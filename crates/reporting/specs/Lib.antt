@@ -1,0 +1,4 @@
+pub mod Reporting
+pub mod Restoring
+pub mod ReportingLaws
+pub mod ReportingCases
