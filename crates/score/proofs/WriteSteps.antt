@@ -11,7 +11,8 @@ use Rattle.sheet.specs.declared.table.GrammarTable.{GrammarTable}
 use Rattle.sheet.specs.declared.table.PlayingTable.{PlayingTable}
 use Rattle.sheet.specs.Sheet.{Grammar, Sheet}
 use Rattle.sheet.specs.Held.{grammarTable, playingTable}
-use Rattle.sheet.specs.Accepted.{SheetHeld, AcceptedAs, refused-reading}
+use Rattle.sheet.specs.Outcome.{Outcome, refused, accepted}
+use Rattle.sheet.specs.Accepted.{SheetHeld, on-refused, on-held}
 use Rattle.sheet.specs.declared.table.Reading.{Reading}
 use Rattle.sheet.specs.Reading.{readSheet}
 use Rattle.sheet.specs.Held.{readingOf}
@@ -20,23 +21,21 @@ use Rattle.trees.specs.ValidTrees as trees
 use Rattle.trees.specs.Theorems.{nodes-most}
 use Rattle.expansions.specs.Tables.{PackedRules, RulesHeld}
 use Rattle.pricing.specs.declared.Priced.{Priced}
-use Rattle.pricing.specs.Pricing as pricing
 use Rattle.pricing.specs.Pricing.{priced, noTree, priceSheet, pricedOf}
 use Rattle.pricing.specs.PricingLaws.{tree-priced, tree-or-none}
 use Rattle.score.specs.declared.Written.{Written}
 use Rattle.score.specs.Score.{treeText}
 use Rattle.score.specs.ScoreLaws.{textSize, score-length}
 use Rattle.score.specs.LeafRules.{leafRules, leaf-rules-most, leaf-rules-entries}
-use Rattle.score.specs.Writing.{Outcome, refusal, written, textWithin, writePriced, writeSheet, writeRead, writeText, writtenOf}
-use Rattle.score.specs.Writing.{scoreAfter}
+use Rattle.score.specs.Writing.{noRoom, textWithin, writePriced, writeSheet, writeText, writtenOf, scoreAfter}
 use Rattle.score.specs.Steps.{TextEntry, TextWritten}
 
 -- what an entry promises: its result and the score slice are those of the outcome
-abbrev pub Promised : Outcome → Written → (score score′ : List ℕ) → Type 0
+abbrev pub Promised : Outcome (List ℕ) → Written → (score score′ : List ℕ) → Type 0
 Promised o r score score′ = (r ≡ writtenOf o) × (score′ ≡ scoreAfter o score)
 
 -- a refusal keeps the slice
-kept : (o : Outcome) (k n : ℕ) → o ≡ refusal k n → (r : Written) (score : List ℕ) → r ≡ writtenOf (refusal k n) → Promised o r score score
+kept : (o : Outcome (List ℕ)) (k n : ℕ) → o ≡ refused k n → (r : Written) (score : List ℕ) → r ≡ writtenOf (refused k n) → Promised o r score score
 unfolding scoreAfter
 kept o k n e r score f = (f ∙ ap writtenOf (sym e), ap (λ x. scoreAfter x score) (sym e))
 
@@ -48,16 +47,16 @@ pub record OwnPrice (s : Sheet) (list : List ℕ) (r : Priced) : Type 0 where
   pub is : priceSheet s list ≡ priced (length list) (r .weight) (r .distance) (r .total)
 
 module _ (s : Sheet) (list : List ℕ) (r : Priced) (e : r ≡ pricedOf (priceSheet s list)) where
-  price-refused : (r .number ≡ 0 → ⊥) → priceSheet s list ≡ pricing.refusal (r .number) (r .line)
+  price-refused : (r .number ≡ 0 → ⊥) → priceSheet s list ≡ refused (r .number) (r .line)
   unfolding pricedOf
   price-refused f = go (tree-or-none s list)
     where
       go : ((R : ℕ) × (D : ℕ) × trees.Priced s list R D) ⊎ (priceSheet s list ≡ noTree)
-          → priceSheet s list ≡ pricing.refusal (r .number) (r .line)
+          → priceSheet s list ≡ refused (r .number) (r .line)
       go (inl (R, D, p)) = absurd (f (ap (λ (x : Priced). x .number) (e ∙ ap pricedOf (tree-priced s list R D p))))
       go (inr n) =
           let h : r ≡ pricedOf noTree = e ∙ ap pricedOf n in
-          n ∙ (λ i. pricing.refusal (ap (λ (x : Priced). x .number) (sym h) i) (ap (λ (x : Priced). x .line) (sym h) i))
+          n ∙ (λ i. refused (ap (λ (x : Priced). x .number) (sym h) i) (ap (λ (x : Priced). x .line) (sym h) i))
 
   pub price-given : r .number ≡ 0 → OwnPrice s list r
   unfolding pricedOf
@@ -74,7 +73,7 @@ module _ (s : Sheet) (list : List ℕ) (r : Priced) (e : r ≡ pricedOf (priceSh
       go (inr n) = absurd (omega (arith, z, ap (λ (x : Priced). x .number) (e ∙ ap pricedOf n)))
 
   -- 12
-  pub sheet-refused : (r .number ≡ 0 → ⊥) → (x : Written) (score : List ℕ) → x ≡ writtenOf (refusal (r .number) (r .line))
+  pub sheet-refused : (r .number ≡ 0 → ⊥) → (x : Written) (score : List ℕ) → x ≡ writtenOf (refused (r .number) (r .line))
       → Promised (writeSheet s list (length score)) x score score
   unfolding writeSheet
   sheet-refused f x score g =
@@ -122,12 +121,12 @@ module _ {s : Sheet} {g : GrammarTable} {p : PlayingTable} {list : List ℕ} {r 
 
   -- 13
   pub short : (score : List ℕ) (size : ℕ) → size ≡ textSize leaves (p .count) → length score < size → (x : Written)
-      → x ≡ writtenOf (refusal 13 0) → Promised (writeSheet s list (length score)) x score score
+      → x ≡ writtenOf (refused 13 0) → Promised (writeSheet s list (length score)) x score score
   unfolding textWithin
   short score size q k x e =
       let no-room = lt-leb (length text) (length score) (omega (arith, k, q, size-is)) in
       kept (writeSheet s list (length score)) 13 0
-      (outcome (length score) ∙ ap (λ b. cond b (written text) (refusal 13 0)) no-room) x score e
+      (outcome (length score) ∙ ap (λ b. cond b (accepted text) (refused 13 0)) no-room) x score e
 
   pub text-entry : (score : List ℕ) (size : ℕ) → size ≡ textSize leaves (p .count) → size ≤ length score
       → TextEntry s cells p list (r .weight) (r .distance) (r .total) score
@@ -140,24 +139,21 @@ module _ {s : Sheet} {g : GrammarTable} {p : PlayingTable} {list : List ℕ} {r 
   unfolding textWithin writtenOf scoreAfter
   sheet-written score score′ size bytes q k w =
       let room = le-leb (length text) (length score) (omega (arith, k, q, size-is)) in
-      let o : writeSheet s list (length score) ≡ written text =
-      outcome (length score) ∙ ap (λ b. cond b (written text) (refusal 13 0)) room in
+      let o : writeSheet s list (length score) ≡ accepted text =
+      outcome (length score) ∙ ap (λ b. cond b (accepted text) (refused 13 0)) room in
       ((λ i. record { number = 0; line = 0; bytes = w .end i }) ∙ ap writtenOf (sym o), w .text ∙ ap (λ x. scoreAfter x score) (sym o))
 
 -- ---- a text
 
-module _ (text list : List ℕ) where
-  pub text-refused : (r : Reading) → r ≡ readingOf (readSheet text) → (r .number ≡ 0 → ⊥) → (x : Written) (score : List ℕ)
-      → x ≡ writtenOf (refusal (r .number) (r .line)) → Promised (writeText text list (length score)) x score score
+module _ (text list : List ℕ) (r : Reading) (e : r ≡ readingOf (readSheet text)) (x : Written) (score : List ℕ) where
+  pub text-refused : (r .number ≡ 0 → ⊥) → x ≡ writtenOf (refused (r .number) (r .line))
+      → Promised (writeText text list (length score)) x score score
   unfolding writeText
-  text-refused r e f x score g =
-      kept (writeText text list (length score)) (r .number) (r .line)
-      (ap (λ o. writeRead o list (length score)) (refused-reading text r e f)) x score g
+  text-refused f g =
+      kept (writeText text list (length score)) (r .number) (r .line) (on-refused text r e (λ s. writeSheet s list (length score)) f) x score g
 
-  module _ {g : GrammarTable} {p : PlayingTable} where
-    pub text-written : (x : Written) (score score′ : List ℕ)
-        → ((s : Sheet) → SheetHeld s g p → Promised (writeSheet s list (length score)) x score score′) → AcceptedAs text g p
-        → Promised (writeText text list (length score)) x score score′
-    unfolding writeText
-    text-written x score score′ f (d, s, e, h) =
-        subst (λ o. Promised o x score score′) (sym (ap (λ o. writeRead o list (length score)) e)) (f s h)
+  pub text-written : (score′ : List ℕ) → r .number ≡ 0
+      → ((s : Sheet) → SheetHeld s (r .grammar) (r .playing) → Promised (writeSheet s list (length score)) x score score′)
+      → Promised (writeText text list (length score)) x score score′
+  unfolding writeText
+  text-written score′ z f = on-held text r e (λ s. writeSheet s list (length score)) (λ o. Promised o x score score′) z f

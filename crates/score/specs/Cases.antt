@@ -15,7 +15,9 @@ use Rattle.trees.specs.ValidTrees.{whose, inside, early, late, bars, placedFrom
 use Rattle.trees.specs.Leaves.{leavesFrom}
 use Rattle.pricing.specs.Pricing.{priced, noTree, priceSheet}
 use Rattle.score.specs.Score.{headLine, leafLine, leafLines, scoreText, treeText}
-use Rattle.score.specs.Writing.{Outcome, refusal, written, noRoom, textWithin, writePriced, writeSheet, writeRead, writeText}
+use Rattle.sheet.specs.Outcome.{Outcome, refused, accepted}
+use Rattle.sheet.specs.Accepted.{on-sheet}
+use Rattle.score.specs.Writing.{noRoom, textWithin, writePriced, writeSheet, writeText}
 
 -- the three lines
 abbrev pub linesOfS : List ℕ
@@ -37,9 +39,9 @@ unfolding priceSheet onto whose distanceTo Option·elim
 S-not-priced = refl
 
 -- what writing on S does, by what it does on the sheet that S means
-on-S : (list : List ℕ) (room : ℕ) (o : Outcome) → writeSheet sheetS list room ≡ o → writeText S list room ≡ o
+on-S : (list : List ℕ) (room : ℕ) (o : Outcome (List ℕ)) → writeSheet sheetS list room ≡ o → writeText S list room ≡ o
 unfolding writeText
-on-S list room o e = ap (λ x. writeRead x list room) S-means ∙ e
+on-S list room o e = on-sheet S (λ s. writeSheet s list room) _ S-means ∙ e
 
 -- the tree's text for a slice of `room` bytes
 S-text : (room : ℕ) → writeText S treeOfS room ≡ textWithin room linesOfS
@@ -47,16 +49,16 @@ unfolding writeSheet
 S-text room = on-S treeOfS room _ (ap (writePriced sheetS treeOfS room) S-priced ∙ ap (textWithin room) S-score)
 
 -- with room for 95 bytes the three lines are written
-pub S-written : (room : ℕ) → 95 ≤ room → writeText S (1 ∷ 3 ∷ 3 ∷ []) room ≡ written linesOfS
+pub S-written : (room : ℕ) → 95 ≤ room → writeText S (1 ∷ 3 ∷ 3 ∷ []) room ≡ accepted linesOfS
 unfolding textWithin
-S-written room h = S-text room ∙ ap (λ b. cond b (written linesOfS) noRoom) (le-leb 95 room h)
+S-written room h = S-text room ∙ ap (λ b. cond b (accepted linesOfS) noRoom) (le-leb 95 room h)
 
 -- with less the slice is short
-pub S-short : (room : ℕ) → room < 95 → writeText S (1 ∷ 3 ∷ 3 ∷ []) room ≡ refusal 13 0
+pub S-short : (room : ℕ) → room < 95 → writeText S (1 ∷ 3 ∷ 3 ∷ []) room ≡ refused 13 0
 unfolding textWithin
-S-short room h = S-text room ∙ ap (λ b. cond b (written linesOfS) noRoom) (lt-leb 95 room h)
+S-short room h = S-text room ∙ ap (λ b. cond b (accepted linesOfS) noRoom) (lt-leb 95 room h)
 
 -- `00` is no valid tree, whatever the slice
-pub S-no-tree : (room : ℕ) → writeText S (0 ∷ []) room ≡ refusal 12 0
+pub S-no-tree : (room : ℕ) → writeText S (0 ∷ []) room ≡ refused 12 0
 unfolding writeSheet
 S-no-tree room = on-S (0 ∷ []) room _ (ap (writePriced sheetS (0 ∷ []) room) S-not-priced)

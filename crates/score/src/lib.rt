@@ -6,7 +6,8 @@ ghost use Rattle.sheet.specs.Sheet.{Sheet};
 ghost use Rattle.sheet.specs.Accepted.{SheetHeld};
 ghost use Rattle.score.specs.ScoreLaws.{textSize};
 ghost use Rattle.score.specs.LeafRules.{leafOne, leafRules};
-ghost use Rattle.score.specs.Writing.{refusal, writeSheet, writeText, writtenOf, scoreAfter};
+ghost use Rattle.sheet.specs.Outcome as outcome;
+ghost use Rattle.score.specs.Writing.{writeSheet, writeText, writtenOf, scoreAfter};
 ghost use Rattle.expansions.specs.Tables.{RulesHeld};
 ghost use Rattle.score.specs.Steps.{TextEntry, TextWritten, PricedEntry};
 
@@ -90,7 +91,7 @@ fn write_text<'a>(
 }
 
 fn refused(number: u8, line: usize) -> Written
-    ensures { λ r. ⌜ r ≡ writtenOf (refusal number line) ⌝ }
+    ensures { λ r. ⌜ r ≡ writtenOf (outcome.refused number line) ⌝ }
 {
     Written {
         number,
