@@ -8,53 +8,46 @@ use lib.Dec.{ltb}
 use lib.ListN.{length, replicate}
 use Rattle.slices.specs.Over.{over}
 use Rattle.sheet.specs.Sheet.{Sheet}
-use Rattle.sheet.specs.Reading.{refused, accepted, readSheet}
-use Rattle.sheet.specs.Reading as reading
+use Rattle.sheet.specs.Outcome.{Outcome, refused, accepted, numberIn, lineIn, andThen}
+use Rattle.sheet.specs.Reading.{onSheet}
 use Rattle.sizes.specs.Sizes.{treeBytes, workCells}
 use Rattle.trees.specs.ValidTrees.{totalOf}
 use Rattle.trees.specs.LeastTotal.{NONE, leastTotal}
 use Rattle.trees.specs.Found.{LeastTree}
 use Rattle.pricing.specs.declared.Priced.{Priced}
-use Rattle.pricing.specs.Pricing as pricing
-use Rattle.pricing.specs.Pricing.{pricedOf}
+use Rattle.pricing.specs.Pricing.{priced, pricedOf}
 
 -- Whether some list of bytes, of any length, is a valid tree, by computing. `FindingLaws` shows that it is so: `has-tree` and `some-tree`,
 -- `has-none` and `no-valid-tree`.
 unfoldable pub hasTree : Sheet → Bool
 hasTree s = ltb (leastTotal s) NONE
 
--- what finding comes to: a refusal before anything is looked for, by its number and its line; no tree of a sheet; a tree of a sheet
-pub data Outcome : Type 0 where
-  refusal : (number line : ℕ) → Outcome
-  noTree : Sheet → Outcome
-  found : Sheet → Outcome
+-- what the search of a sheet comes to
+pub data Search : Type 0 where
+  noTree : Sheet → Search
+  found : Sheet → Search
 
--- "Then finding: 9, 10, 11": "work slice short", "tree slice short", "no valid tree". The numbers are the slices' lengths.
-unfoldable pub findSheet : Sheet → (tree work : ℕ) → Outcome
+-- "Then finding: 9, 10, 11": "work slice short", "tree slice short"; else the sheet is searched. The numbers are the slices' lengths.
+unfoldable pub findSheet : Sheet → (tree work : ℕ) → Outcome Search
 findSheet s tree work =
-    cond (ltb work (workCells s)) (refusal 9 0)
-    (cond (ltb tree (treeBytes s)) (refusal 10 0)
-    (cond (hasTree s) (found s) (noTree s)))
+    cond (ltb work (workCells s)) (refused 9 0)
+    (cond (ltb tree (treeBytes s)) (refused 10 0)
+    (accepted (cond (hasTree s) (found s) (noTree s))))
 
--- "Each operation takes the sheet as its text and checks it itself": the refusal of a text that is no sheet comes first
-abbrev pub findRead : reading.Outcome → (tree work : ℕ) → Outcome
-findRead (refused k n) tree work = refusal k n
-findRead (accepted d s) tree work = findSheet s tree work
+unfoldable pub findText : (text : List ℕ) → (tree work : ℕ) → Outcome Search
+unfolding onSheet
+findText text tree work = onSheet text (λ s. findSheet s tree work)
 
-unfoldable pub findText : (text : List ℕ) → (tree work : ℕ) → Outcome
-findText text tree work = findRead (readSheet text) tree work
+-- "11 no valid tree", with line 0
+abbrev pub treeOf : Search → Outcome Sheet
+treeOf (noTree s) = refused 11 0
+treeOf (found s) = accepted s
 
--- the number: "11 no valid tree"; "An accepted call gives number 0"
-abbrev pub numberOf : Outcome → ℕ
-numberOf (refusal k n) = k
-numberOf (noTree s) = 11
-numberOf (found s) = 0
+abbrev pub numberOf : Outcome Search → ℕ
+numberOf o = numberIn (andThen o treeOf)
 
--- the line: "0 for 1, for 9 to 13"; "An accepted call gives [..] line 0"
-abbrev pub lineOf : Outcome → ℕ
-lineOf (refusal k n) = n
-lineOf (noTree s) = 0
-lineOf (found s) = 0
+abbrev pub lineOf : Outcome Search → ℕ
+lineOf o = lineIn (andThen o treeOf)
 
 -- "After a tree or after refusal 11 the required work cells are 0 and later cells kept"
 abbrev pub cleared : Sheet → (work : List ℕ) → List ℕ
@@ -62,7 +55,7 @@ cleared s work = over (replicate (workCells s) 0) work
 
 -- "A refusal gives its number, the line [..] and zeros elsewhere; every slice keeps its bytes, except work after 11"
 pub record Refused (number line : ℕ) (tree treeAfter : List ℕ) (answer : Priced) : Type 0 where
-  pub zeros : answer ≡ pricedOf (pricing.refusal number line)
+  pub zeros : answer ≡ pricedOf (refused number line)
   pub tree-kept : treeAfter ≡ tree
 
 -- "It gives what pricing its tree gives, and writes the tree from the front; later bytes are kept [..] it is valid and has the least total"
@@ -71,17 +64,17 @@ pub record FoundTree (s : Sheet) (tree treeAfter : List ℕ) (answer : Priced) :
   pub weight : ℕ
   pub distance : ℕ
   pub least : LeastTree s bytes weight distance
-  pub figures : answer ≡ pricedOf (pricing.priced (length bytes) weight distance (totalOf s weight distance))
+  pub figures : answer ≡ pricedOf (priced (length bytes) weight distance (totalOf s weight distance))
   pub tree-written : treeAfter ≡ over bytes tree
 
 -- the answer and the slices, by what finding comes to
-abbrev pub Result : Outcome → (tree treeAfter work workAfter : List ℕ) → (answer : Priced) → Type 0
-Result (refusal k n) tree treeAfter work workAfter answer = Refused k n tree treeAfter answer × (workAfter ≡ work)
-Result (noTree s) tree treeAfter work workAfter answer = Refused 11 0 tree treeAfter answer × (workAfter ≡ cleared s work)
-Result (found s) tree treeAfter work workAfter answer = FoundTree s tree treeAfter answer × (workAfter ≡ cleared s work)
+abbrev pub Result : Outcome Search → (tree treeAfter work workAfter : List ℕ) → (answer : Priced) → Type 0
+Result (refused k n) tree treeAfter work workAfter answer = Refused k n tree treeAfter answer × (workAfter ≡ work)
+Result (accepted (noTree s)) tree treeAfter work workAfter answer = Refused 11 0 tree treeAfter answer × (workAfter ≡ cleared s work)
+Result (accepted (found s)) tree treeAfter work workAfter answer = FoundTree s tree treeAfter answer × (workAfter ≡ cleared s work)
 
 -- the number and the line are the outcome's, and so is the result
-pub record Gives (o : Outcome) (tree treeAfter work workAfter : List ℕ) (answer : Priced) : Type 0 where
+pub record Gives (o : Outcome Search) (tree treeAfter work workAfter : List ℕ) (answer : Priced) : Type 0 where
   pub number : answer .number ≡ numberOf o
   pub line : answer .line ≡ lineOf o
   pub result : Result o tree treeAfter work workAfter answer

@@ -13,8 +13,11 @@ use borrow.Author.Tests.{lt-ltb, ltb-true}
 use lib.ListN.{length, take, drop, replicate}
 use Rattle.slices.specs.Every.{Every, every-weaken}
 use Rattle.slices.specs.Over.{over, length-over, take-over, drop-over}
-use Rattle.sheet.specs.Sheet.{Sheet, barUnits}
-use Rattle.sheet.specs.Reading.{Outcome, refused, accepted, readSheet}
+use Rattle.sheet.specs.Sheet.{Sheet, TimedSheet, barUnits}
+use Rattle.sheet.specs.Outcome.{Outcome, refused, accepted}
+use Rattle.sheet.specs.Reading.{readSheet}
+use Rattle.sheet.specs.Accepted.{on-refusal, on-sheet}
+use Rattle.sheet.specs.Numbers.{refused-most}
 use Rattle.sheet.specs.Good.{Good}
 use Rattle.sheet.specs.GoodLaws.{good}
 use Rattle.sheet.specs.Bounds.{refused-within}
@@ -29,26 +32,23 @@ use Rattle.trees.specs.Theorems.{valid-bytes, node-count, total-below}
 use Rattle.pricing.specs.declared.Priced.{Priced}
 use Rattle.pricing.specs.Pricing.{priceSheet, pricedOf}
 use Rattle.pricing.specs.PricingLaws.{tree-priced}
-use Rattle.finding.specs.Finding as finding
-use Rattle.finding.specs.Finding.{hasTree, found, findSheet, numberOf, cleared, FoundTree, Gives, Finds}
-use Rattle.finding.specs.Numbers.{refused-most}
-use Rattle.finding.specs.Outcomes.{work-short, tree-short, none-found, one-found, by-lengths, refused-found}
-use Rattle.finding.specs.Outcomes.{sheet-found}
+use Rattle.finding.specs.Finding.{hasTree, Search, noTree, found, findSheet, findText, numberOf, cleared, FoundTree, Gives, Finds}
+use Rattle.finding.specs.Outcomes.{work-short, tree-short, none-found, one-found, by-lengths}
 
 -- ---- whether there is a tree
 
-module _ (s : Sheet) (d : ℕ) (ok : Good d s) where
+module _ (s : Sheet) (ok : Good s) where
   -- a tree of the sheet fits a tree slice of the required length
   pub tree-fits : (bs : List ℕ) → ValidTree s bs → length bs ≤ treeBytes s
   unfolding treeBytes
-  tree-fits bs v = node-count s d ok bs v
+  tree-fits bs v = node-count s ok bs v
 
   -- where some list is a valid tree
   pub has-tree : (bs : List ℕ) → ValidTree s bs → hasTree s ≡ true
   unfolding hasTree
   has-tree bs v =
       let (R, D, p) = own-price s bs v in
-      lt-ltb (leastTotal s) NONE (omega (arith, least-total-below s (ok .rules) bs R D p, total-below s d ok bs R D p))
+      lt-ltb (leastTotal s) NONE (omega (arith, least-total-below s (ok .rules) bs R D p, total-below s ok bs R D p))
 
   -- and nowhere else: it is one of bytes, and least
   pub some-tree : hasTree s ≡ true
@@ -86,7 +86,7 @@ module _ (s : Sheet) (d : ℕ) (ok : Good d s) where
 
 -- what number 0 tells of a sheet
 pub record TreeHandedBack (s : Sheet) (tree treeAfter work workAfter : List ℕ) (answer : Priced) : Type 0 where
-  pub outcome : findSheet s (length tree) (length work) ≡ found s
+  pub outcome : findSheet s (length tree) (length work) ≡ accepted (found s)
   -- the tree handed back is the bytes at the front of the tree slice: a valid tree with the figures given, and none totals less
   pub least : LeastTree s (take (answer .nodes) treeAfter) (answer .weight) (answer .distance)
   pub total : answer .total ≡ totalOf s (answer .weight) (answer .distance)
@@ -100,13 +100,12 @@ pub record TreeHandedBack (s : Sheet) (tree treeAfter work workAfter : List ℕ)
 
 -- and of a text
 pub record HandedBack (text tree treeAfter work workAfter : List ℕ) (answer : Priced) : Type 0 where
-  pub duration : ℕ
-  pub sheet : Sheet
-  pub read : readSheet text ≡ accepted duration sheet
-  pub back : TreeHandedBack sheet tree treeAfter work workAfter answer
+  pub means : TimedSheet
+  pub read : readSheet text ≡ accepted means
+  pub back : TreeHandedBack (means .sheet) tree treeAfter work workAfter answer
 
-module _ (s : Sheet) (d : ℕ) (ok : Good d s) {tree treeAfter work workAfter : List ℕ} {answer : Priced} where
-  from-tree : findSheet s (length tree) (length work) ≡ found s → treeBytes s ≤ length tree → FoundTree s tree treeAfter answer
+module _ (s : Sheet) (ok : Good s) {tree treeAfter work workAfter : List ℕ} {answer : Priced} where
+  from-tree : findSheet s (length tree) (length work) ≡ accepted (found s) → treeBytes s ≤ length tree → FoundTree s tree treeAfter answer
       → workAfter ≡ cleared s work → TreeHandedBack s tree treeAfter work workAfter answer
   unfolding pricedOf
   from-tree o room t c =
@@ -133,7 +132,7 @@ module _ (s : Sheet) (d : ℕ) (ok : Good d s) {tree treeAfter work workAfter : 
       distance = ap (λ (p : Priced). p .distance) (t .figures)
 
       fits : length (t .bytes) ≤ length tree
-      fits = omega (arith, room, tree-fits s d ok (t .bytes) (t .least .valid .valid))
+      fits = omega (arith, room, tree-fits s ok (t .bytes) (t .least .valid .valid))
 
       front : take (answer .nodes) treeAfter ≡ t .bytes
       front = rw (nodes, t .tree-written) (take-over (t .bytes) tree fits)
@@ -143,48 +142,61 @@ module _ (s : Sheet) (d : ℕ) (ok : Good d s) {tree treeAfter work workAfter : 
       → TreeHandedBack s tree treeAfter work workAfter answer
   tree-handed-back f z = by-lengths s (length tree) (length work) Back nine ten eleven tree-given f
     where
-      Back : finding.Outcome → Type 0
+      Back : Outcome Search → Type 0
       Back o = Gives o tree treeAfter work workAfter answer → TreeHandedBack s tree treeAfter work workAfter answer
 
-      nine : findSheet s (length tree) (length work) ≡ finding.refusal 9 0 → Back (finding.refusal 9 0)
+      nine : findSheet s (length tree) (length work) ≡ refused 9 0 → Back (refused 9 0)
       nine q g = let f : ⊥ = omega (arith, g .number) in absurd f
 
-      ten : findSheet s (length tree) (length work) ≡ finding.refusal 10 0 → Back (finding.refusal 10 0)
+      ten : findSheet s (length tree) (length work) ≡ refused 10 0 → Back (refused 10 0)
       ten q g = let f : ⊥ = omega (arith, g .number) in absurd f
 
-      eleven : treeBytes s ≤ length tree → findSheet s (length tree) (length work) ≡ finding.noTree s → Back (finding.noTree s)
+      eleven : treeBytes s ≤ length tree → findSheet s (length tree) (length work) ≡ accepted (noTree s) → Back (accepted (noTree s))
       eleven t q g = let f : ⊥ = omega (arith, g .number) in absurd f
 
-      tree-given : treeBytes s ≤ length tree → findSheet s (length tree) (length work) ≡ found s → Back (found s)
+      tree-given : treeBytes s ≤ length tree → findSheet s (length tree) (length work) ≡ accepted (found s) → Back (accepted (found s))
       tree-given t q g = from-tree q t (g .result .0) (g .result .1)
 
 module _ (text : List ℕ) {tree treeAfter work workAfter : List ℕ} {answer : Priced} where
+  -- what finding comes to is what it comes to on the sheet that the text means, or the text's refusal
+  refused-found : (k n : ℕ) → readSheet text ≡ refused k n → findText text (length tree) (length work) ≡ refused k n
+  unfolding findText
+  refused-found = on-refusal text (λ s. findSheet s (length tree) (length work))
+
+  sheet-found : (x : TimedSheet) → readSheet text ≡ accepted x
+      → findText text (length tree) (length work) ≡ findSheet (x .sheet) (length tree) (length work)
+  unfolding findText
+  sheet-found = on-sheet text (λ s. findSheet s (length tree) (length work))
+
   module _ (f : Finds text tree treeAfter work workAfter answer) where
     -- of a text that is refused the number is reading's; it is 1 to 8
     pub refused-number : (k n : ℕ) → readSheet text ≡ refused k n → (answer .number ≡ k) × (1 ≤ k) × (k ≤ 8)
     refused-number k n e =
-        (f .number ∙ ap numberOf (refused-found text _ _ k n e), refused-within text k n e .0, refused-most text k n e)
+        (f .number ∙ ap numberOf (refused-found k n e), refused-within text k n e .0, refused-most text k n e)
 
     -- number 0: a tree is handed back
     pub handed-back : answer .number ≡ 0 → HandedBack text tree treeAfter work workAfter answer
     handed-back z = go (readSheet text) refl
       where
-        go : (o : Outcome) → readSheet text ≡ o → HandedBack text tree treeAfter work workAfter answer
+        go : (o : Outcome TimedSheet) → readSheet text ≡ o → HandedBack text tree treeAfter work workAfter answer
         go (refused k n) e = let (q, one, most) = refused-number k n e in let f : ⊥ = omega arith in absurd f
-        go (accepted d s) e =
-            let at-sheet = subst (λ o. Gives o tree treeAfter work workAfter answer) (sheet-found text _ _ d s e) f in
-            record { duration = d; sheet = s; read = e; back = tree-handed-back s d (good text d s e) at-sheet z }
+        go (accepted x) e =
+            let at-sheet = subst (λ o. Gives o tree treeAfter work workAfter answer) (sheet-found x e) f in
+            record { means = x; read = e; back = tree-handed-back (x .sheet) (good text x e) at-sheet z }
 
     -- a refused text: neither 0 nor 11
     pub refused-neither : (k n : ℕ) → readSheet text ≡ refused k n → (answer .number ≡ 0 → ⊥) × (answer .number ≡ 11 → ⊥)
     refused-neither k n e = let (q, one, most) = refused-number k n e in (λ z. omega arith, λ z. omega arith)
 
-    module _ (d : ℕ) (s : Sheet) (read : readSheet text ≡ accepted d s) where
-      abbrev ok : Good d s
-      ok = good text d s read
+    module _ (x : TimedSheet) (read : readSheet text ≡ accepted x) where
+      abbrev s : Sheet
+      s = x .sheet
 
-      numbered : (o : finding.Outcome) → findSheet s (length tree) (length work) ≡ o → answer .number ≡ numberOf o
-      numbered o e = f .number ∙ ap numberOf (sheet-found text _ _ d s read ∙ e)
+      ok : Good s
+      ok = good text x read
+
+      numbered : (o : Outcome Search) → findSheet s (length tree) (length work) ≡ o → answer .number ≡ numberOf o
+      numbered o e = f .number ∙ ap numberOf (sheet-found x read ∙ e)
 
       -- a slice that is shorter than required: neither
       pub short-neither : (length work < workCells s) ⊎ (length tree < treeBytes s) → (answer .number ≡ 0 → ⊥) × (answer .number ≡ 11 → ⊥)
@@ -199,10 +211,10 @@ module _ (text : List ℕ) {tree treeAfter work workAfter : List ℕ} {answer : 
       -- slices of the required lengths
       module _ (w : workCells s ≤ length work) (t : treeBytes s ≤ length tree) where
         pub some-then-zero : (bs : List ℕ) → ValidTree s bs → answer .number ≡ 0
-        some-then-zero bs v = numbered _ (one-found s _ _ w t (has-tree s d ok bs v))
+        some-then-zero bs v = numbered _ (one-found s _ _ w t (has-tree s ok bs v))
 
         pub none-then-eleven : ((bs : List ℕ) → ValidTree s bs → ⊥) → answer .number ≡ 11
-        none-then-eleven h = numbered _ (none-found s _ _ w t (has-none s d ok h))
+        none-then-eleven h = numbered _ (none-found s _ _ w t (has-none s ok h))
 
         by-tree : (hasTree s ≡ true) ⊎ (hasTree s ≡ false)
         by-tree = go (hasTree s) refl
@@ -214,7 +226,7 @@ module _ (text : List ℕ) {tree treeAfter work workAfter : List ℕ} {answer : 
         -- 0 only where some list of bytes is a valid tree
         pub zero-then-some : answer .number ≡ 0 → (bs : List ℕ) × ValidTree s bs × Every (λ (b : ℕ). b < 256) bs
         zero-then-some z = elim by-tree [
-          | inl e ↦ let x = some-tree s d ok e in (x .0, x .3 .valid .valid, x .4)
+          | inl e ↦ let x = some-tree s ok e in (x .0, x .3 .valid .valid, x .4)
           | inr e ↦ let q = numbered _ (none-found s _ _ w t e) in let f : ⊥ = omega arith in absurd f
         ]
 

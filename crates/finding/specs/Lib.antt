@@ -2,7 +2,6 @@ pub mod Finding
 pub mod Figures
 pub mod Outcomes
 pub mod FindingLaws
-pub mod Numbers
 pub mod EveryReading
 pub mod Cases
 pub mod FindingCases

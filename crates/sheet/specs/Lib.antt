@@ -9,6 +9,7 @@ pub mod SoFar
 pub mod Laws
 pub mod GoodLaws
 pub mod Bounds
+pub mod Numbers
 pub mod Accepted
 pub mod Demands
 pub mod Buffer

@@ -8,11 +8,13 @@ use native.Mathlib.Omega.{arith}
 use lib.ListN.{length}
 use lib.Dec.{ltb}
 use Rattle.hextext.specs.Text.{badLine, lines}
 use Rattle.sheet.specs.declared.line.Line.{Line}
-use Rattle.sheet.specs.Reading.{demand, lineOf, Progress, nothing, inRules, inOnsets, headRefusal, divisionRefusal, leafRefusal}
-use Rattle.sheet.specs.Reading.{playingRefusal, onsetRefusal, rulesRefusal, refusal, after, Outcome, refused, accepted, atEnd}
-use Rattle.sheet.specs.Reading.{readLines, readSheet}
+use Rattle.sheet.specs.Sheet.{Playing, Timing, TimedSheet}
+use Rattle.sheet.specs.Outcome.{Outcome, refused, accepted}
+use Rattle.sheet.specs.Reading.{demand, first, lineOf, Progress, nothing, inRules, inOnsets, headRefusal, divisionRefusal, leafRefusal}
+use Rattle.sheet.specs.Reading.{ruleRefusal, playingRefusal, onsetForm, momentRefusal, roomRefusal, onsetRefusal, rulesRefusal, refusal}
+use Rattle.sheet.specs.Reading.{after, atEnd, readLines, readSheet}
 use Rattle.sheet.specs.Laws.{too-long, ill-formed, well-formed}
 
 abbrev Small : ℕ → Type 0
 Small k = k ≤ 8
@@ -26,6 +28,10 @@ pass false k n hk hn = hk
 either : (t : Bool) (k n : ℕ) → Small k → Small n → Small (cond t k n)
 either true k n hk hn = hk
 either false k n hk hn = hn
+
+one-of : (k n : ℕ) → Small k → Small n → Small (first k n)
+one-of zero n hk hn = hn
+one-of (suc k) n hk hn = hk
 
 -- the numbers that a line can have, and 0 for none
 none : Small 0
@@ -49,7 +55,7 @@ seven = omega arith
 eight : Small 8
 eight = omega arith
 
-ruleset small = (pass, either, none, three, four, five, six, seven, eight)
+ruleset small = (pass, either, one-of, none, three, four, five, six, seven, eight)
 
 head-small : (l : Line) → Small (headRefusal l)
 unfolding headRefusal
@@ -67,29 +73,45 @@ playing-small : (l : Line) → Small (playingRefusal l)
 unfolding playingRefusal
 playing-small l = search small depth 10
 
-onset-small : (bars duration last before here : ℕ) (l : Line) → Small (onsetRefusal bars duration last before here l)
+rule-small : (q before : ℕ) (l : Line) → Small (ruleRefusal q before l)
+unfolding ruleRefusal
+rule-small q before l = search (small, division-small, leaf-small) depth 10
+
+form-small : (l : Line) → Small (onsetForm l)
+unfolding onsetForm
+form-small l = search small depth 10
+
+moment-small : (bars : ℕ) (timing : Timing) (last t : ℕ) → Small (momentRefusal bars timing last t)
+unfolding momentRefusal
+moment-small bars timing last t = search small depth 10
+
+room-small : (before here : ℕ) → Small (roomRefusal before here)
+unfolding roomRefusal
+room-small before here = search small depth 10
+
+onset-small : (timing : Timing) (p : Playing) (last : ℕ) (l : Line) → Small (onsetRefusal timing p last l)
 unfolding onsetRefusal
-onset-small bars duration last before here l = search small depth 10
+onset-small timing p last l = search (small, form-small, moment-small, room-small) depth 10
 
 refusal-small : (r : Progress) (l : Line) → Small (refusal r l)
 unfolding refusal rulesRefusal
 refusal-small nothing l = search (small, head-small)
-refusal-small (inRules g) l = search (small, division-small, leaf-small, playing-small) depth 10
-refusal-small (inOnsets g duration p last) l = search (small, onset-small)
+refusal-small (inRules g) l = search (small, rule-small, playing-small) depth 10
+refusal-small (inOnsets g timing p last) l = search (small, onset-small)
 
 -- ---- a text's
 
-abbrev SmallIn : Outcome → Type 0
+abbrev SmallIn : Outcome TimedSheet → Type 0
 SmallIn (refused k n) = Small k
-SmallIn (accepted d s) = Unit {0}
+SmallIn (accepted x) = Unit {0}
 
 end-small : (r : Progress) (n : ℕ) → SmallIn (atEnd r n)
 unfolding atEnd
 end-small nothing n = three
 end-small (inRules g) n = three
-end-small (inOnsets g d p last) n = go (ltb 0 (length (p .onsets)))
+end-small (inOnsets g timing p last) n = go (ltb 0 (length (p .onsets)))
   where
-    go : (t : Bool) → SmallIn (cond t (accepted d (record { grammar = g; playing = p })) (refused 3 n))
+    go : (t : Bool) → SmallIn (cond t (accepted (record { sheet = record { grammar = g; playing = p }; timing = timing })) (refused 3 n))
     go true = tt
     go false = three
 
