@@ -11,7 +11,12 @@ use case_text::place_of;
 use case_text::print;
 use case_text::print_front;
 use case_text::wide;
+use reporting::REFUSAL_LINE_BYTES;
+use reporting::RefusalLine;
+use reporting::SCORE_BYTES;
 use reporting::Shown;
+use reporting::TREE_BYTES_MOST;
+use reporting::WORK_CELLS;
 
 // How `find` is run: what fills the slices, and how many bytes and cells are lent.
 struct Setting {
@@ -136,7 +141,7 @@ fn print_found(text: &[u8], tree: &mut [u8], work: &mut [u64], page: &mut [u8], 
 }
 
 // The line is taken as an array, whose length is known even after a call that stored it.
-fn print_line(line: &[u8; 9]) {
+fn print_line(line: &RefusalLine) {
     io::write_all(1, line);
 }
 
@@ -145,7 +150,7 @@ fn print_report(text: &[u8], tree: &mut [u8], work: &mut [u64], score: &mut [u8]
     fill_from(tree, 0, 0);
     fill_cells(work, 0);
     fill_from(score, 0, 0);
-    let mut line = [0u8; 9];
+    let mut line = [0u8; REFUSAL_LINE_BYTES];
     let shown = reporting::report(text, work, tree, score, &mut line);
     io::write_all(1, b"\n");
     match shown {
@@ -192,9 +197,9 @@ fn run(s: &[u8], tree: &mut [u8], work: &mut [u64], page: &mut [u8]) {
 
 fn main() {
     let mut input = [0u8; 131072];
-    let mut tree = [0u8; 41024];
-    let mut work = [0u64; 8192];
-    let mut page = [0u8; 65536];
+    let mut tree = [0u8; TREE_BYTES_MOST];
+    let mut work = [0u64; WORK_CELLS];
+    let mut page = [0u8; SCORE_BYTES];
     let n = io::read_full(0, &mut input);
     run(&input[..n], &mut tree, &mut work, &mut page);
 }

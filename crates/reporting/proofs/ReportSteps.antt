@@ -33,7 +33,7 @@ use Rattle.finding.specs.FindingLaws.{TreeHandedBack, tree-handed-back}
 use Rattle.reporting.specs.declared.Shown.{Shown}
 use Rattle.reporting.specs.declared.Shown.the-variants.{Score, Line}
 use Rattle.reporting.specs.Reporting.{refusalLine, Page, scorePage, refusalPage, treeWith, pageWithin, Prints, Printed, Reports}
-use Rattle.reporting.specs.Restoring.{restored}
+use Rattle.reporting.specs.Restoring.{treeMost, restored}
 use Rattle.reporting.specs.ReportingLaws.{within-lines, within-short, prints}
 
 -- ---- `refusal_line`
@@ -52,12 +52,12 @@ line-composed k n bytes out r e w = (rw e at w) .text
 -- ---- `compose_sheet`
 
 -- what was written over the front of the tree slice is put back
-put-back : {tree treeAfter : List ℕ} (bs : List ℕ) → length bs ≤ 41024 → treeAfter ≡ over bs tree → (r : Shown) → r ≡ Line
-    → restored r (take 41024 tree) treeAfter ≡ tree
-put-back {tree} bs h e r q = rw (q, e) (over-back 41024 bs tree h)
+put-back : {tree treeAfter : List ℕ} (bs : List ℕ) → length bs ≤ treeMost → treeAfter ≡ over bs tree → (r : Shown) → r ≡ Line
+    → restored r (take treeMost tree) treeAfter ≡ tree
+put-back {tree} bs h e r q = rw (q, e) (over-back treeMost bs tree h)
 
 -- and where nothing was written
-kept-back : {tree treeAfter : List ℕ} → treeAfter ≡ tree → (r : Shown) → r ≡ Line → restored r (take 41024 tree) treeAfter ≡ tree
+kept-back : {tree treeAfter : List ℕ} → treeAfter ≡ tree → (r : Shown) → r ≡ Line → restored r (take treeMost tree) treeAfter ≡ tree
 kept-back {tree} same r q = put-back [] (omega arith) (same ∙ sym (over-nil tree)) r q
 
 -- the line of a refusal
@@ -69,7 +69,7 @@ module _ {s : Sheet} {g : GrammarTable} {p : PlayingTable} (h : SheetHeld s g p)
     (f : Gives (findSheet s (length tree) (length work)) tree treeAfter work workAfter x) where
   -- a refusal of finding
   pub refusal-reported : (x .number ≡ 0 → ⊥) → (score line lineAfter : List ℕ) → lineAfter ≡ refusalLine (x .number) (x .line) → (r : Shown)
-      → r ≡ Line → Printed (findSheet s (length tree) (length work)) tree (restored r (take 41024 tree) treeAfter) work workAfter
+      → r ≡ Line → Printed (findSheet s (length tree) (length work)) tree (restored r (take treeMost tree) treeAfter) work workAfter
       score score line lineAfter r
   refusal-reported nz score line lineAfter e r q = go (findSheet s (length tree) (length work)) f
     where
@@ -77,7 +77,7 @@ module _ {s : Sheet} {g : GrammarTable} {p : PlayingTable} (h : SheetHeld s g p)
       page k n a b = refused-page k n q (rw (← a, ← b) e)
 
       go : (o : Outcome) → Gives o tree treeAfter work workAfter x
-          → Printed o tree (restored r (take 41024 tree) treeAfter) work workAfter score score line lineAfter r
+          → Printed o tree (restored r (take treeMost tree) treeAfter) work workAfter score score line lineAfter r
       go (refusal k n) g = (page k n (g .number) (g .line), kept-back (g .result .0 .tree-kept) r q, g .result .1)
       go (noTree s) g = (page 11 0 (g .number) (g .line), kept-back (g .result .0 .tree-kept) r q, g .result .1)
       go (found s) g = absurd (nz (g .number))
@@ -103,7 +103,7 @@ module _ {s : Sheet} {g : GrammarTable} {p : PlayingTable} (h : SheetHeld s g p)
     lines = treeText s bytes (x .weight) (x .distance) (totalOf s (x .weight) (x .distance))
 
     -- no tree has more bytes than are put back
-    few : length bytes ≤ 41024
+    few : length bytes ≤ treeMost
     few = nodes-most s (h .duration) (h .good) bytes (back .least .valid .valid)
 
     -- writing gives its score lines, or 13
@@ -127,16 +127,16 @@ module _ {s : Sheet} {g : GrammarTable} {p : PlayingTable} (h : SheetHeld s g p)
       ]
 
       abbrev Answers : Page → (line lineAfter : List ℕ) → Shown → Type 0
-      Answers p line lineAfter r = (restored r (take 41024 tree) treeAfter ≡ treeWith p bytes tree) × Prints p score scoreOut line lineAfter r
+      Answers p line lineAfter r = (restored r (take treeMost tree) treeAfter ≡ treeWith p bytes tree) × Prints p score scoreOut line lineAfter r
 
       abbrev Reported : (line lineAfter : List ℕ) → Shown → Type 0
       Reported line lineAfter r =
-          Printed (findSheet s (length tree) (length work)) tree (restored r (take 41024 tree) treeAfter) work workAfter score scoreOut line
+          Printed (findSheet s (length tree) (length work)) tree (restored r (take treeMost tree) treeAfter) work workAfter score scoreOut line
           lineAfter r
 
       whole : (line lineAfter : List ℕ) (r : Shown) → Answers (pageWithin room lines) line lineAfter r → Reported line lineAfter r
       whole line lineAfter r (t, p) =
-          subst (λ (o : Outcome). Printed o tree (restored r (take 41024 tree) treeAfter) work workAfter score scoreOut line lineAfter r)
+          subst (λ (o : Outcome). Printed o tree (restored r (take treeMost tree) treeAfter) work workAfter score scoreOut line lineAfter r)
           (sym (back .outcome)) (
             record {
               bytes = bytes;
@@ -178,9 +178,9 @@ module _ {s : Sheet} {g : GrammarTable} {p : PlayingTable} (h : SheetHeld s g p)
 -- a text that is refused
 pub text-refused : (text tree work score line lineAfter : List ℕ) (x : Reading) → x ≡ readingOf (readSheet text) → (x .number ≡ 0 → ⊥)
     → (r : Shown) → r ≡ Line → lineAfter ≡ refusalLine (x .number) (x .line)
-    → Reports text tree (restored r (take 41024 tree) tree) work work score score line lineAfter r
+    → Reports text tree (restored r (take treeMost tree) tree) work work score score line lineAfter r
 text-refused text tree work score line lineAfter x e nz r q l = record {
-  is = subst (λ (o : Outcome). Printed o tree (restored r (take 41024 tree) tree) work work score score line lineAfter r)
+  is = subst (λ (o : Outcome). Printed o tree (restored r (take treeMost tree) tree) work work score score line lineAfter r)
       (sym (refused-found text _ _ (x .number) (x .line) (refused-reading text x e nz)))
       (refused-page (x .number) (x .line) q l, kept-back refl r q, refl);
 }
@@ -199,19 +199,19 @@ text-reported {text} {tree} {treeAfter} {work} {workAfter} {score} {scoreAfter} 
 -- ---- `report`
 
 -- as much of a slice as a tree can be written over
-front-whole : (n : ℕ) (xs : List ℕ) → n ≤ 41024 → (n < 41024 → n ≡ length xs) → take n xs ≡ take 41024 xs
-front-whole n xs h e = elim (decLt n 41024) [
-  | yes l ↦ take-all n xs (omega (arith, e l)) ∙ sym (take-all 41024 xs (omega (arith, e l, l)))
-  | no l ↦ let same : n ≡ 41024 = omega arith in rw same refl
+front-whole : (n : ℕ) (xs : List ℕ) → n ≤ treeMost → (n < treeMost → n ≡ length xs) → take n xs ≡ take treeMost xs
+front-whole n xs h e = elim (decLt n treeMost) [
+  | yes l ↦ take-all n xs (omega (arith, e l)) ∙ sym (take-all treeMost xs (omega (arith, e l, l)))
+  | no l ↦ let same : n ≡ treeMost = omega arith in rw same refl
 ]
 
 -- what was copied aside of a slice is its front
-copied-aside : (n : ℕ) (tree kept : List ℕ) → n ≤ length tree → n ≤ 41024 → (n < 41024 → n ≡ length tree)
-    → kept ≡ over (take n (take n tree)) (replicate 41024 0) → take n kept ≡ take 41024 tree
+copied-aside : (n : ℕ) (tree kept : List ℕ) → n ≤ length tree → n ≤ treeMost → (n < treeMost → n ≡ length tree)
+    → kept ≡ over (take n (take n tree)) (replicate treeMost 0) → take n kept ≡ take treeMost tree
 copied-aside n tree kept fits h e k =
     rw k (
-    ap (λ (m : ℕ). take m (over (take n (take n tree)) (replicate 41024 0))) (sym short)
-    ∙ take-over (take n (take n tree)) (replicate 41024 0) (omega (arith, short, h, length-replicate {A = ℕ} 41024 0))
+    ap (λ (m : ℕ). take m (over (take n (take n tree)) (replicate treeMost 0))) (sym short)
+    ∙ take-over (take n (take n tree)) (replicate treeMost 0) (omega (arith, short, h, length-replicate {A = ℕ} treeMost 0))
     ∙ take-take n n tree (omega arith)
     ∙ front-whole n tree h e
     )
@@ -220,14 +220,14 @@ copied-aside n tree kept fits h e k =
     short = rw (take-take n n tree (omega arith)) (length-take-le n tree fits)
 
 -- there is room aside for the front of a slice
-pub aside-room : (n : ℕ) (tree : List ℕ) → n ≤ length tree → n ≤ 41024
-    → (n ≤ length (take n tree)) × (n ≤ length (replicate {A = ℕ} 41024 0))
-aside-room n tree fits h = (omega (arith, length-take-le n tree fits), omega (arith, h, length-replicate {A = ℕ} 41024 0))
+pub aside-room : (n : ℕ) (tree : List ℕ) → n ≤ length tree → n ≤ treeMost
+    → (n ≤ length (take n tree)) × (n ≤ length (replicate {A = ℕ} treeMost 0))
+aside-room n tree fits h = (omega (arith, length-take-le n tree fits), omega (arith, h, length-replicate {A = ℕ} treeMost 0))
 
 -- the answer of `compose`, with the tree slice restored
 pub reported : (between : List ℕ) {text tree treeAfter work workAfter score scoreAfter line lineAfter kept : List ℕ} {n : ℕ} {r : Shown}
-    → n ≤ length tree → n ≤ 41024 → (n < 41024 → n ≡ length tree) → kept ≡ over (take n (take n tree)) (replicate 41024 0)
-    → Reports text tree (restored r (take 41024 tree) between) work workAfter score scoreAfter line lineAfter r
+    → n ≤ length tree → n ≤ treeMost → (n < treeMost → n ≡ length tree) → kept ≡ over (take n (take n tree)) (replicate treeMost 0)
+    → Reports text tree (restored r (take treeMost tree) between) work workAfter score scoreAfter line lineAfter r
     → treeAfter ≡ restored r (take n kept) between → Reports text tree treeAfter work workAfter score scoreAfter line lineAfter r
 reported between {text} {tree} {treeAfter} {work} {workAfter} {score} {scoreAfter} {line} {lineAfter} {kept} {n} {r} fits h e k given a =
     subst (λ (t : List ℕ). Reports text tree t work workAfter score scoreAfter line lineAfter r)

@@ -7,13 +7,27 @@ ghost use Rattle.sheet.specs.Accepted.{SheetHeld};
 ghost use Rattle.finding.specs.Finding.{findSheet};
 ghost use Rattle.reporting.specs.declared.Shown.the-variants.{Line};
 ghost use Rattle.reporting.specs.Reporting.{refusalLine, Printed, Reports};
-ghost use Rattle.reporting.specs.Restoring.{restored};
+ghost use Rattle.reporting.specs.Restoring.{treeMost, restored};
 use finding::find_sheet;
 use hextext::put_field;
 use score::write_priced;
 use search::copy;
 use sheet::GrammarTable;
 use sheet::PlayingTable;
+
+// The bytes of a refusal's line: four as pairs, and 0A.
+pub const REFUSAL_LINE_BYTES: usize = 9;
+
+pub type RefusalLine = [u8; REFUSAL_LINE_BYTES];
+
+// The most bytes that a tree has: one for each of 64 bars and 80 for each of 512 onsets.
+pub const TREE_BYTES_MOST: usize = 41024;
+
+// The length of the program's work slice.
+pub const WORK_CELLS: usize = 8192;
+
+// The length of the program's score slice.
+pub const SCORE_BYTES: usize = 65536;
 
 // Where the text to print stands: so many bytes at the front of the score slice, or the whole line slice.
 pub enum Shown {
@@ -22,18 +36,18 @@ pub enum Shown {
 }
 
 // The line of a refusal: `52`, its number, its line.
-fn refusal_line(number: u8, line: usize) -> [u8; 9]
+fn refusal_line(number: u8, line: usize) -> RefusalLine
     ensures { λ r. ⌜ r ≡ refusalLine number line ⌝ }
 {
     let mut bytes = [0x52, number, 0, 0];
     put_field(&mut bytes, 2, 2, line as u64);
-    let mut cells = [0u8; 9];
+    let mut cells = [0u8; REFUSAL_LINE_BYTES];
     hextext::write_line(&bytes, &mut cells, 0);
     cells
 }
 
 // Composes the line of a refusal in the line slice.
-fn refuse(number: u8, at: usize, line: &mut [u8; 9]) -> Shown
+fn refuse(number: u8, at: usize, line: &mut RefusalLine) -> Shown
     ensures { λ r. ⌜ (r ≡ Line) × (now (line .exit) ≡ refusalLine number at) ⌝ }
 {
     let cells = refusal_line(number, at);
@@ -48,12 +62,12 @@ fn compose_sheet(
     work: &mut [u64],
     tree: &mut [u8],
     score: &mut [u8],
-    line: &mut [u8; 9],
+    line: &mut RefusalLine,
 ) -> Shown
     requires { ⌜ ((s : Sheet) × SheetHeld s grammar playing) ⌝ }
     ensures { λ r. ⌜ ((s : Sheet) → SheetHeld s grammar playing
         → Printed (findSheet s (length (now (tree .entry))) (length (now (work .entry))))
-        (now (tree .entry)) (restored r (take 41024 (now (tree .entry))) (now (tree .exit)))
+        (now (tree .entry)) (restored r (take treeMost (now (tree .entry))) (now (tree .exit)))
         (now (work .entry)) (now (work .exit)) (now (score .entry)) (now (score .exit)) (now (line .entry)) (now (line .exit)) r) ⌝ }
 {
     let found = find_sheet(grammar, playing, tree, work);
@@ -78,9 +92,9 @@ fn compose(
     work: &mut [u64],
     tree: &mut [u8],
     score: &mut [u8],
-    line: &mut [u8; 9],
+    line: &mut RefusalLine,
 ) -> Shown
-    ensures { λ r. ⌜ Reports (now (text .entry)) (now (tree .entry)) (restored r (take 41024 (now (tree .entry))) (now (tree .exit)))
+    ensures { λ r. ⌜ Reports (now (text .entry)) (now (tree .entry)) (restored r (take treeMost (now (tree .entry))) (now (tree .exit)))
         (now (work .entry)) (now (work .exit)) (now (score .entry)) (now (score .exit)) (now (line .entry)) (now (line .exit)) r ⌝ }
 {
     let r = reading::read(text);
@@ -95,17 +109,17 @@ fn compose(
 
 // How many bytes of a slice of this length a tree can be written over.
 fn front(size: usize) -> usize
-    ensures { λ r. ⌜ (r ≤ size) × (r ≤ 41024) × (r < 41024 → r ≡ size) ⌝ }
+    ensures { λ r. ⌜ (r ≤ size) × (r ≤ treeMost) × (r < treeMost → r ≡ size) ⌝ }
 {
-    if size < 41024 {
+    if size < TREE_BYTES_MOST {
         return size;
     }
-    41024
+    TREE_BYTES_MOST
 }
 
 // Puts the first n bytes back that were kept of the tree slice, where a refusal is shown.
-fn restore(shown: Shown, kept: &[u8; 41024], tree: &mut [u8], n: usize)
-    requires { ⌜ (n ≤ 41024) × (n ≤ length (now tree)) ⌝ }
+fn restore(shown: Shown, kept: &[u8; TREE_BYTES_MOST], tree: &mut [u8], n: usize)
+    requires { ⌜ (n ≤ treeMost) × (n ≤ length (now tree)) ⌝ }
     ensures { λ _. ⌜ now (tree .exit) ≡ restored shown (take n (now (kept .entry))) (now (tree .entry)) ⌝ }
 {
     match shown {
@@ -124,12 +138,12 @@ pub fn report(
     work: &mut [u64],
     tree: &mut [u8],
     score: &mut [u8],
-    line: &mut [u8; 9],
+    line: &mut RefusalLine,
 ) -> Shown
     ensures { λ r. ⌜ Reports (now (text .entry)) (now (tree .entry)) (now (tree .exit)) (now (work .entry)) (now (work .exit))
         (now (score .entry)) (now (score .exit)) (now (line .entry)) (now (line .exit)) r ⌝ }
 {
-    let mut kept = [0u8; 41024];
+    let mut kept = [0u8; TREE_BYTES_MOST];
     let n = front(tree.len());
     copy(&tree[..n], &mut kept, n);
     let shown = compose(text, work, tree, score, line);

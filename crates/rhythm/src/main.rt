@@ -1,13 +1,20 @@
 // Reads a sheet from standard input and prints the score lines of a least tree, or one line with the refusal. One byte more than a sheet
 // may have is read, so that a longer input is seen to be too long.
+use reporting::REFUSAL_LINE_BYTES;
+use reporting::SCORE_BYTES;
 use reporting::Shown;
+use reporting::TREE_BYTES_MOST;
+use reporting::WORK_CELLS;
+
+// One byte more than a sheet may have.
+const TEXT_BYTES: usize = 16385;
 
 fn main() {
-    let mut text = [0u8; 16385];
-    let mut work = [0u64; 8192];
-    let mut tree = [0u8; 41024];
-    let mut score = [0u8; 65536];
-    let mut line = [0u8; 9];
+    let mut text = [0u8; TEXT_BYTES];
+    let mut work = [0u64; WORK_CELLS];
+    let mut tree = [0u8; TREE_BYTES_MOST];
+    let mut score = [0u8; SCORE_BYTES];
+    let mut line = [0u8; REFUSAL_LINE_BYTES];
     let n = io::read_full(0, &mut text);
     let shown = reporting::report(&text[..n], &mut work, &mut tree, &mut score, &mut line);
     match shown {

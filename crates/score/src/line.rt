@@ -8,6 +8,9 @@ ghost use Rattle.score.specs.Steps.{leafOver, LineHeld};
 use expansions::Interval;
 use hextext::put_field;
 
+// A leaf's line has nine bytes and the pitches placed there, 35 at most.
+pub const LEAF_LINE_MOST: usize = 44;
+
 // The bytes of the head.
 pub fn head_line(bars: u8, total: u64, weight: u64, distance: u64) -> [u8; 26]
     ensures { λ r. ⌜ r ≡ headLine bars total weight distance ⌝ }

@@ -5,6 +5,7 @@ ghost use Prim.Native.Nat.{ℕ};
 ghost use Rattle.sheet.specs.Sheet.{Sheet};
 ghost use Rattle.derivations.specs.Derivation.{Item};
 ghost use Rattle.score.specs.Steps.{LeafEntry, LeafWritten, TreeEntry, TreeWritten, BarsEntry, BarsWritten};
+use crate::line::LEAF_LINE_MOST;
 use crate::line::leaf_line;
 use expansions::Interval;
 use expansions::place;
@@ -37,7 +38,7 @@ fn write_leaf<'a>(
     let placed = place(units, over, p.from);
     let early = placed.early;
     let late = placed.late;
-    let mut line = [0u8; 44];
+    let mut line = [0u8; LEAF_LINE_MOST];
     let count = leaf_line(
         &mut line,
         pitches,
