@@ -61,7 +61,7 @@ module _ {s : Sheet} {grammar : GrammarTable} {list : List ℕ} {R D total : ℕ
   weight-entry p = record {
     packed = p;
     below = every-weaken _ _ (λ r k. omega (arith, k, h .good .rules .most)) list (valid-bytes s list (h .tree .valid));
-    few = nodes-most s (h .duration) (h .good) list (h .tree .valid);
+    few = nodes-most s (h .good) list (h .tree .valid);
   }
 
   multiplier-is : grammar .multiplier ≡ s .grammar .multiplier

@@ -14,23 +14,23 @@ use Rattle.sheet.specs.Sheet.{Sheet}
 use Rattle.sheet.specs.Reading.{readSheet}
 use Rattle.sheet.specs.Held.{grammarTable, playingTable, readingOf}
 use Rattle.sheet.specs.Good.{Good}
-use Rattle.sheet.specs.Accepted.{SheetHeld, AcceptedAs, refused-reading}
+use Rattle.sheet.specs.Outcome.{Outcome, refused}
+use Rattle.sheet.specs.Accepted.{SheetHeld, on-refused, on-held}
 use Rattle.sizes.specs.Sizes.{treeBytes, workCells}
 use Rattle.trees.specs.ValidTrees.{ValidTree, totalOf}
 use Rattle.trees.specs.LeastTotal.{NONE, leastTotal}
 use Rattle.pricing.specs.declared.Priced.{Priced}
-use Rattle.pricing.specs.Pricing as pricing
-use Rattle.pricing.specs.Pricing.{pricedOf}
+use Rattle.pricing.specs.Pricing.{priced, pricedOf}
 use Rattle.search.specs.declared.Found.the-variants.{NoTree, Tree}
 use Rattle.search.specs.Search.{SearchEntry, Searched}
-use Rattle.finding.specs.Finding.{hasTree, Outcome, refusal, findSheet, Gives, Finds}
+use Rattle.finding.specs.Finding.{hasTree, Search, findSheet, findText, Gives, Finds}
 use Rattle.finding.specs.Figures.{FiguresEntry}
-use Rattle.finding.specs.Outcomes.{work-short, tree-short, none-found, one-found, refused-found, sheet-found, gives}
+use Rattle.finding.specs.Outcomes.{work-short, tree-short, none-found, one-found, gives}
 use Rattle.finding.specs.FindingLaws.{tree-fits, has-tree}
 
 -- what `work_cells` and `tree_bytes` tell
 abbrev CellsTold : GrammarTable → PlayingTable → ℕ → Type 0
-CellsTold g p n = (d : ℕ) (s : Sheet) → Good d s → g ≡ grammarTable (s .grammar) → p ≡ playingTable (s .playing) → n ≡ workCells s
+CellsTold g p n = (s : Sheet) → Good s → g ≡ grammarTable (s .grammar) → p ≡ playingTable (s .playing) → n ≡ workCells s
 
 abbrev BytesTold : PlayingTable → ℕ → Type 0
 BytesTold p n = (s : Sheet) → p ≡ playingTable (s .playing) → n ≡ treeBytes s
@@ -43,9 +43,9 @@ counts h = (rw (h .grammar) (h .good .rules .most), rw (h .playing) (h .good .on
 module _ {s : Sheet} {g : GrammarTable} {p : PlayingTable} (h : SheetHeld s g p) (tree work : List ℕ) (cells : ℕ)
     (told : CellsTold g p cells) where
   required : cells ≡ workCells s
-  required = told (h .duration) s (h .good) (h .grammar) (h .playing)
+  required = told s (h .good) (h .grammar) (h .playing)
 
-  pub short-work : length work < cells → (r : Priced) → r ≡ pricedOf (pricing.refusal 9 0)
+  pub short-work : length work < cells → (r : Priced) → r ≡ pricedOf (refused 9 0)
       → Gives (findSheet s (length tree) (length work)) tree tree work work r
   short-work w r e =
       gives _ _ (work-short s (length tree) (length work) (omega (arith, required))) (record { zeros = e; tree-kept = refl }, refl)
@@ -57,7 +57,7 @@ module _ {s : Sheet} {g : GrammarTable} {p : PlayingTable} (h : SheetHeld s g p)
     room-required : bytes ≡ treeBytes s
     room-required = bytes-told s (h .playing)
 
-    pub short-tree : length tree < bytes → (r : Priced) → r ≡ pricedOf (pricing.refusal 10 0)
+    pub short-tree : length tree < bytes → (r : Priced) → r ≡ pricedOf (refused 10 0)
         → Gives (findSheet s (length tree) (length work)) tree tree work work r
     short-tree t r e =
         gives _ _ (tree-short s (length tree) (length work) enough (omega (arith, room-required)))
@@ -69,7 +69,7 @@ module _ {s : Sheet} {g : GrammarTable} {p : PlayingTable} (h : SheetHeld s g p)
 -- what the search told
 module _ {s : Sheet} {g : GrammarTable} {p : PlayingTable} {tree work : List ℕ} (entry : SearchEntry s g p tree work) (after clear : List ℕ)
   where
-    pub nothing-found : Searched s tree after work clear NoTree → (r : Priced) → r ≡ pricedOf (pricing.refusal 11 0)
+    pub nothing-found : Searched s tree after work clear NoTree → (r : Priced) → r ≡ pricedOf (refused 11 0)
         → Gives (findSheet s (length tree) (length work)) tree after work clear r
     unfolding hasTree
     nothing-found f r e =
@@ -85,7 +85,7 @@ module _ {s : Sheet} {g : GrammarTable} {p : PlayingTable} {tree work : List ℕ
       valid = f .found .3 .tree .valid .valid
 
       fits : length bs ≤ length tree
-      fits = omega (arith, entry .tree-size, tree-fits s (entry .held .duration) (entry .held .good) bs valid)
+      fits = omega (arith, entry .tree-size, tree-fits s (entry .held .good) bs valid)
 
       pub nodes-fit : n ≤ length after
       nodes-fit = omega (arith, fits, f .found .4, ap length (f .found .5), length-over bs tree)
@@ -98,7 +98,6 @@ module _ {s : Sheet} {g : GrammarTable} {p : PlayingTable} {tree work : List ℕ
 
       pub figures-entry : FiguresEntry s g (take n after) (f .found .1) (f .found .2) total
       figures-entry = record {
-        duration = entry .held .duration;
         good = entry .held .good;
         held = entry .held .grammar;
         tree = rw front (f .found .3 .tree .valid);
@@ -108,17 +107,17 @@ module _ {s : Sheet} {g : GrammarTable} {p : PlayingTable} {tree work : List ℕ
       abbrev found-total : ℕ
       found-total = totalOf s (f .found .1) (f .found .2)
 
-      pub tree-found : (r : Priced) → r ≡ pricedOf (pricing.priced (length (take n after)) (f .found .1) (f .found .2) found-total)
+      pub tree-found : (r : Priced) → r ≡ pricedOf (priced (length (take n after)) (f .found .1) (f .found .2) found-total)
           → Gives (findSheet s (length tree) (length work)) tree after work clear r
       tree-found r e =
           gives _ _ (one-found s (length tree) (length work) (entry .work-size) (entry .tree-size)
-          (has-tree s (entry .held .duration) (entry .held .good) bs valid)) (
+          (has-tree s (entry .held .good) bs valid)) (
             record {
               bytes = bs;
               weight = f .found .1;
               distance = f .found .2;
               least = f .found .3 .tree;
-              figures = e ∙ ap (λ (l : List ℕ). pricedOf (pricing.priced (length l) (f .found .1) (f .found .2) found-total)) front;
+              figures = e ∙ ap (λ (l : List ℕ). pricedOf (priced (length l) (f .found .1) (f .found .2) found-total)) front;
               tree-written = f .found .5;
             },
             f .clear,
@@ -126,16 +125,19 @@ module _ {s : Sheet} {g : GrammarTable} {p : PlayingTable} {tree work : List ℕ
 
 -- ---- `find`
 
--- a text that is refused
-pub text-refused : (text tree work : List ℕ) (r : Reading) → r ≡ readingOf (readSheet text) → (r .number ≡ 0 → ⊥) → (x : Priced)
-    → x ≡ pricedOf (pricing.refusal (r .number) (r .line)) → Finds text tree tree work work x
-text-refused text tree work r e k x q =
-    gives _ (refusal (r .number) (r .line)) (refused-found text _ _ (r .number) (r .line) (refused-reading text r e k))
-    (record { zeros = q; tree-kept = refl }, refl)
+module _ (text tree work : List ℕ) (r : Reading) (e : r ≡ readingOf (readSheet text)) (x : Priced) where
+  -- a text that is refused
+  pub text-refused : (r .number ≡ 0 → ⊥) → x ≡ pricedOf (refused (r .number) (r .line)) → Finds text tree tree work work x
+  unfolding findText
+  text-refused k q =
+      gives _ (refused (r .number) (r .line)) (on-refused text r e (λ s. findSheet s (length tree) (length work)) k)
+      (record { zeros = q; tree-kept = refl }, refl)
 
--- a text that means a sheet
-pub text-found : (text tree treeAfter work workAfter : List ℕ) (g : GrammarTable) (p : PlayingTable) (x : Priced)
-    → ((s : Sheet) → SheetHeld s g p → Gives (findSheet s (length tree) (length work)) tree treeAfter work workAfter x)
-    → AcceptedAs text g p → Finds text tree treeAfter work workAfter x
-text-found text tree treeAfter work workAfter g p x f (d, s, e, h) =
-    subst (λ (o : Outcome). Gives o tree treeAfter work workAfter x) (sym (sheet-found text _ _ d s e)) (f s h)
+  -- a text that means a sheet
+  pub text-found : (treeAfter workAfter : List ℕ) → r .number ≡ 0
+      → ((s : Sheet) → SheetHeld s (r .grammar) (r .playing)
+      → Gives (findSheet s (length tree) (length work)) tree treeAfter work workAfter x)
+      → Finds text tree treeAfter work workAfter x
+  unfolding findText
+  text-found treeAfter workAfter z f =
+      on-held text r e (λ s. findSheet s (length tree) (length work)) (λ (o : Outcome Search). Gives o tree treeAfter work workAfter x) z f

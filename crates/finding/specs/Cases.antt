@@ -8,15 +8,15 @@ use mathlib.Core.Option.{Option·elim}
 use lib.Dec.{eqb, leb}
 use lib.ListN.{length, replicate}
 use Rattle.sheet.specs.Literal.{textOf}
-use Rattle.sheet.specs.Sheet.{Sheet, inBar}
-use Rattle.sheet.specs.Reading.{Outcome, refused, accepted, readSheet}
+use Rattle.sheet.specs.Sheet.{Sheet, TimedSheet, inBar}
+use Rattle.sheet.specs.Outcome.{Outcome, refused, accepted}
+use Rattle.sheet.specs.Reading.{readSheet}
 use Rattle.sheet.specs.Cases.{grammarS, headS, S}
 use Rattle.sizes.specs.Sizes.{treeBytes, workCells, lengthCount, mostInBar, largest}
 use Rattle.derivations.specs.Derivation.{Price, onto}
 use Rattle.trees.specs.ValidTrees.{whose, bars, distanceTo, totalOf}
 use Rattle.trees.specs.Instance.{instanceOf}
-use Rattle.pricing.specs.Pricing as pricing
-use Rattle.pricing.specs.Pricing.{refusal, priced, priceSheet}
+use Rattle.pricing.specs.Pricing.{Figures, priced, priceSheet}
 use Rattle.finding.specs.EveryReading.{everyReading}
 
 -- a text, the required lengths of its work slice and its tree slice, what is given, and the tree's bytes
@@ -24,10 +24,10 @@ pub record Case : Type 0 where
   pub text : List ℕ
   pub cells : ℕ
   pub room : ℕ
-  pub gives : pricing.Outcome
+  pub gives : Outcome Figures
   pub bytes : List ℕ
 
-abbrev pub case : (text : List ℕ) → (cells room : ℕ) → pricing.Outcome → (bytes : List ℕ) → Case
+abbrev pub case : (text : List ℕ) → (cells room : ℕ) → Outcome Figures → (bytes : List ℕ) → Case
 case t cells room o bs = record { text = t; cells = cells; room = room; gives = o; bytes = bs }
 
 -- S with the first onset dropped and the other at the time given
@@ -43,7 +43,7 @@ cases =
     ∷ case (later (textOf "000F423F")) 240 81 (priced 3 9 1 91) (1 ∷ 2 ∷ 3 ∷ [])
     ∷ case (later (textOf "000F4240")) 240 81 (priced 3 9 0 90) (1 ∷ 2 ∷ 3 ∷ [])
     ∷ case (grammarS ++ textOf "4502001E8480\n4E000000003C40\n4E001E847F3E40\n") 480 162 (priced 2 2 1 21) (0 ∷ 0 ∷ [])
-    ∷ case (grammarS ++ headS ++ textOf "4E000000003C40\n4E000000003E40\n") 464 161 (refusal 11 0) []
+    ∷ case (grammarS ++ headS ++ textOf "4E000000003C40\n4E000000003E40\n") 464 161 (refused 11 0) []
     ∷ []
 
 -- ---- the test of a case
@@ -54,11 +54,12 @@ same [] (y ∷ ys) = false
 same (x ∷ xs) [] = false
 same (x ∷ xs) (y ∷ ys) = eqb x y && same xs ys
 
-unfoldable pub alike : pricing.Outcome → pricing.Outcome → Bool
-alike (priced n R D t) (priced n′ R′ D′ t′) = eqb n n′ && (eqb R R′ && (eqb D D′ && eqb t t′))
-alike (priced n R D t) (refusal k l) = false
-alike (refusal k l) (priced n R D t) = false
-alike (refusal k l) (refusal k′ l′) = eqb k k′ && eqb l l′
+unfoldable pub alike : Outcome Figures → Outcome Figures → Bool
+alike (accepted x) (accepted y) =
+    eqb (x .nodes) (y .nodes) && (eqb (x .weight) (y .weight) && (eqb (x .distance) (y .distance) && eqb (x .total) (y .total)))
+alike (accepted x) (refused k l) = false
+alike (refused k l) (accepted x) = false
+alike (refused k l) (refused k′ l′) = eqb k k′ && eqb l l′
 
 -- a list that carries nothing out and totals no more is these bytes
 unfoldable pub onlyTree : Sheet → (bytes : List ℕ) → (total : ℕ) → List ℕ → Price → Bool
@@ -75,15 +76,16 @@ unfoldable pub everyList : Sheet → (List ℕ → Price → Bool) → Bool
 unfolding everyReading instanceOf bars
 everyList s test = everyReading (instanceOf s) 8 (bars s) 0 test
 
-unfoldable pub judgedTree : Sheet → pricing.Outcome → (bytes : List ℕ) → Bool
+unfoldable pub judgedTree : Sheet → Outcome Figures → (bytes : List ℕ) → Bool
 unfolding priceSheet everyList alike onlyTree carriesOut same
-judgedTree s (priced nodes R D total) bs = alike (priceSheet s bs) (priced nodes R D total) && everyList s (onlyTree s bs total)
-judgedTree s (refusal k n) bs = alike (refusal k n) (refusal 11 0) && (same bs [] && everyList s carriesOut)
+judgedTree s (accepted x) bs = alike (priceSheet s bs) (accepted x) && everyList s (onlyTree s bs (x .total))
+judgedTree s (refused k n) bs = alike (refused k n) (refused 11 0) && (same bs [] && everyList s carriesOut)
 
-unfoldable pub judged : Outcome → Case → Bool
+unfoldable pub judged : Outcome TimedSheet → Case → Bool
 unfolding judgedTree workCells treeBytes lengthCount mostInBar largest inBar
 judged (refused k n) c = false
-judged (accepted d s) c = eqb (workCells s) (c .cells) && (eqb (treeBytes s) (c .room) && judgedTree s (c .gives) (c .bytes))
+judged (accepted x) c =
+    eqb (workCells (x .sheet)) (c .cells) && (eqb (treeBytes (x .sheet)) (c .room) && judgedTree (x .sheet) (c .gives) (c .bytes))
 
 unfoldable pub holds : Case → Bool
 unfolding judged readSheet

@@ -27,8 +27,7 @@ pub record WeightEntry (s : Sheet) (rules list : List ℕ) : Type 0 where
 
 -- an accepted sheet's grammar, and a valid tree with its R, its D and its total
 pub record FiguresEntry (s : Sheet) (grammar : GrammarTable) (list : List ℕ) (R D total : ℕ) : Type 0 where
-  pub duration : ℕ
-  pub good : Good duration s
+  pub good : Good s
   pub held : grammar ≡ grammarTable (s .grammar)
   pub tree : Priced s list R D
   pub total-is : total ≡ totalOf s R D

@@ -22,8 +22,9 @@ use lib.ListN.{length, take, replicate}
 use Rattle.slices.specs.Every.{Every}
 use Rattle.slices.specs.Test.{and-both}
 use Rattle.slices.specs.Over.{over, take-over}
-use Rattle.sheet.specs.Sheet.{Sheet}
-use Rattle.sheet.specs.Reading.{Outcome, refused, accepted, readSheet}
+use Rattle.sheet.specs.Sheet.{Sheet, TimedSheet}
+use Rattle.sheet.specs.Outcome.{Outcome, refused, accepted}
+use Rattle.sheet.specs.Reading.{readSheet}
 use Rattle.sheet.specs.Good.{Good}
 use Rattle.sheet.specs.GoodLaws.{good}
 use Rattle.sheet.specs.Cases.{S}
@@ -37,13 +38,11 @@ use Rattle.trees.specs.OneReading.{one-price}
 use Rattle.trees.specs.Equivalence.{valid-derived}
 use Rattle.trees.specs.Found.{LeastTree, own-price}
 use Rattle.pricing.specs.declared.Priced.{Priced}
-use Rattle.pricing.specs.Pricing as pricing
-use Rattle.pricing.specs.Pricing.{refusal, priced, priceSheet, pricedOf}
+use Rattle.pricing.specs.Pricing.{Figures, priced, priceSheet, pricedOf}
 use Rattle.pricing.specs.PricingLaws.{price-own}
-use Rattle.finding.specs.Finding as finding
-use Rattle.finding.specs.Finding.{found, noTree, findSheet, cleared, FoundTree, Gives, Finds}
-use Rattle.finding.specs.Outcomes.{one-found, none-found, sheet-found}
-use Rattle.finding.specs.FindingLaws.{has-tree, has-none}
+use Rattle.finding.specs.Finding.{Search, found, noTree, findSheet, cleared, FoundTree, Result, Gives, Finds}
+use Rattle.finding.specs.Outcomes.{one-found, none-found}
+use Rattle.finding.specs.FindingLaws.{has-tree, has-none, sheet-found}
 use Rattle.finding.specs.EveryReading.{reading-passes}
 use Rattle.finding.specs.Cases.{Case, cases, same, alike, onlyTree, carriesOut, everyList, judgedTree, judged, holds}
 use Rattle.finding.specs.Cases.{all-computed}
@@ -73,17 +72,21 @@ same-eq (x ∷ xs) (y ∷ ys) e =
     let b = same-eq xs ys t in
     λ i. a i ∷ b i
 
-alike-eq : (o o′ : pricing.Outcome) → alike o o′ ≡ true → o ≡ o′
+alike-eq : (o o′ : Outcome Figures) → alike o o′ ≡ true → o ≡ o′
 unfolding alike
-alike-eq (priced n R D t) (priced n′ R′ D′ t′) e =
-    let (a, x) = and-both (eqb n n′) _ e in
-    let (b, y) = and-both (eqb R R′) _ x in
-    let (c, d) = and-both (eqb D D′) (eqb t t′) y in
-    λ i. priced (eqb-true n n′ a i) (eqb-true R R′ b i) (eqb-true D D′ c i) (eqb-true t t′ d i)
-alike-eq (priced n R D t) (refusal k l) e = absurd (false≢true e)
-alike-eq (refusal k l) (priced n R D t) e = absurd (false≢true e)
-alike-eq (refusal k l) (refusal k′ l′) e =
-    let (a, b) = and-both (eqb k k′) (eqb l l′) e in λ i. refusal (eqb-true k k′ a i) (eqb-true l l′ b i)
+alike-eq (accepted x) (accepted y) e =
+    let (a, u) = and-both (eqb (x .nodes) (y .nodes)) _ e in
+    let (b, v) = and-both (eqb (x .weight) (y .weight)) _ u in
+    let (c, d) = and-both (eqb (x .distance) (y .distance)) (eqb (x .total) (y .total)) v in
+    let nodes = eqb-true (x .nodes) (y .nodes) a in
+    let weight = eqb-true (x .weight) (y .weight) b in
+    let distance = eqb-true (x .distance) (y .distance) c in
+    let total = eqb-true (x .total) (y .total) d in
+    λ i. priced (nodes i) (weight i) (distance i) (total i)
+alike-eq (accepted x) (refused k l) e = absurd (false≢true e)
+alike-eq (refused k l) (accepted x) e = absurd (false≢true e)
+alike-eq (refused k l) (refused k′ l′) e =
+    let (a, b) = and-both (eqb k k′) (eqb l l′) e in λ i. refused (eqb-true k k′ a i) (eqb-true l l′ b i)
 
 module _ (s : Sheet) where
   abbrev owned : (R D : ℕ) → Price
@@ -118,7 +121,7 @@ module _ (s : Sheet) where
 -- ---- what finding gives of them
 
 -- the answer and the slices of a sheet
-pub record AnsweredSheet (s : Sheet) (o : pricing.Outcome) (bs tree treeAfter work workAfter : List ℕ) (answer : Priced) : Type 0 where
+pub record AnsweredSheet (s : Sheet) (o : Outcome Figures) (bs tree treeAfter work workAfter : List ℕ) (answer : Priced) : Type 0 where
   pub answer-so : answer ≡ pricedOf o
   pub tree-so : treeAfter ≡ over bs tree
   pub work-so : workAfter ≡ cleared s work
@@ -139,55 +142,59 @@ is-found s bs n R D t all e {tree} {treeAfter} {work} {workAfter} {answer} g c =
           work-so = c;
         }
 
-module _ (text : List ℕ) (d : ℕ) (s : Sheet) (read : readSheet text ≡ accepted d s) {tree treeAfter work workAfter : List ℕ}
-    {answer : Priced} (w : workCells s ≤ length work) (room : treeBytes s ≤ length tree)
+module _ (text : List ℕ) (x : TimedSheet) (read : readSheet text ≡ accepted x) {tree treeAfter work workAfter : List ℕ}
+    {answer : Priced} (w : workCells (x .sheet) ≤ length work) (room : treeBytes (x .sheet) ≤ length tree)
     (f : Finds text tree treeAfter work workAfter answer) where
-  abbrev ok : Good d s
-  ok = good text d s read
+  abbrev s : Sheet
+  s = x .sheet
+
+  ok : Good s
+  ok = good text x read
 
   -- the result, by what finding comes to
-  result-at : (o : finding.Outcome) → findSheet s (length tree) (length work) ≡ o → finding.Result o tree treeAfter work workAfter answer
-  result-at o e = subst (λ o. Gives o tree treeAfter work workAfter answer) (sheet-found text _ _ d s read ∙ e) f .result
+  result-at : (o : Outcome Search) → findSheet s (length tree) (length work) ≡ o → Result o tree treeAfter work workAfter answer
+  result-at o e = subst (λ o. Gives o tree treeAfter work workAfter answer) (sheet-found text _ _ x read ∙ e) f .result
 
   -- there is one least tree
   tree-answered : (bs : List ℕ) (n R D t : ℕ) → priceSheet s bs ≡ priced n R D t → everyList s (onlyTree s bs t) ≡ true
       → AnsweredSheet s (priced n R D t) bs tree treeAfter work workAfter answer
   tree-answered bs n R D t e all =
-      let r = result-at (found s) (one-found s _ _ w room (has-tree s d ok bs (price-own s bs n R D t e .0 .valid))) in
+      let r = result-at (accepted (found s)) (one-found s _ _ w room (has-tree s ok bs (price-own s bs n R D t e .0 .valid))) in
       is-found s bs n R D t all e (r .0) (r .1)
 
   -- there is none
-  none-answered : everyList s carriesOut ≡ true → AnsweredSheet s (refusal 11 0) [] tree treeAfter work workAfter answer
+  none-answered : everyList s carriesOut ≡ true → AnsweredSheet s (refused 11 0) [] tree treeAfter work workAfter answer
   unfolding over
   none-answered all =
-      let r = result-at (noTree s) (none-found s _ _ w room (has-none s d ok (no-tree s all))) in
+      let r = result-at (accepted (noTree s)) (none-found s _ _ w room (has-none s ok (no-tree s all))) in
       record { answer-so = r .0 .zeros; tree-so = r .0 .tree-kept; work-so = r .1 }
 
-  sheet-answered : (o : pricing.Outcome) (bs : List ℕ) → judgedTree s o bs ≡ true
+  sheet-answered : (o : Outcome Figures) (bs : List ℕ) → judgedTree s o bs ≡ true
       → AnsweredSheet s o bs tree treeAfter work workAfter answer
   unfolding judgedTree
-  sheet-answered (priced n R D t) bs e =
-      let (a, b) = and-both (alike (priceSheet s bs) (priced n R D t)) _ e in tree-answered bs n R D t (alike-eq _ _ a) b
-  sheet-answered (refusal k n) bs e = go (and-both (alike (refusal k n) (refusal 11 0)) _ e)
+  sheet-answered (accepted p) bs e =
+      let (a, b) = and-both (alike (priceSheet s bs) (accepted p)) _ e in
+      tree-answered bs (p .nodes) (p .weight) (p .distance) (p .total) (alike-eq _ _ a) b
+  sheet-answered (refused k n) bs e = go (and-both (alike (refused k n) (refused 11 0)) _ e)
     where
-      go : (alike (refusal k n) (refusal 11 0) ≡ true) × ((same bs [] && everyList s carriesOut) ≡ true)
-          → AnsweredSheet s (refusal k n) bs tree treeAfter work workAfter answer
+      go : (alike (refused k n) (refused 11 0) ≡ true) × ((same bs [] && everyList s carriesOut) ≡ true)
+          → AnsweredSheet s (refused k n) bs tree treeAfter work workAfter answer
       go (a, b) =
           let (x, y) = and-both (same bs []) _ b in
-          rw (alike-eq (refusal k n) (refusal 11 0) a, same-eq bs [] x) (none-answered y)
+          rw (alike-eq (refused k n) (refused 11 0) a, same-eq bs [] x) (none-answered y)
 
 case-answered : (c : Case) → holds c ≡ true → Answers c
 unfolding holds judged
 case-answered c e tree treeAfter work workAfter answer w t f = go (readSheet (c .text)) refl e
   where
-    go : (o : Outcome) → readSheet (c .text) ≡ o → judged o c ≡ true → Answered c tree treeAfter work workAfter answer
+    go : (o : Outcome TimedSheet) → readSheet (c .text) ≡ o → judged o c ≡ true → Answered c tree treeAfter work workAfter answer
     go (refused k n) r h = absurd (false≢true h)
-    go (accepted d s) r h =
-        let (a, x) = and-both (eqb (workCells s) (c .cells)) _ h in
-        let (b, y) = and-both (eqb (treeBytes s) (c .room)) _ x in
-        let cells = eqb-true (workCells s) (c .cells) a in
-        let bytes = eqb-true (treeBytes s) (c .room) b in
-        let g = sheet-answered (c .text) d s r (omega (arith, cells)) (omega (arith, bytes)) f (c .gives) (c .bytes) y in
+    go (accepted x) r h =
+        let (a, v) = and-both (eqb (workCells (x .sheet)) (c .cells)) _ h in
+        let (b, y) = and-both (eqb (treeBytes (x .sheet)) (c .room)) _ v in
+        let cells = eqb-true (workCells (x .sheet)) (c .cells) a in
+        let bytes = eqb-true (treeBytes (x .sheet)) (c .room) b in
+        let g = sheet-answered (c .text) x r (omega (arith, cells)) (omega (arith, bytes)) f (c .gives) (c .bytes) y in
         record {
           answer-is = g .answer-so;
           tree-is = g .tree-so;

@@ -157,22 +157,22 @@ module _ (s : Sheet) (ok : Good s) {tree treeAfter work workAfter : List ℕ} {a
       tree-given : treeBytes s ≤ length tree → findSheet s (length tree) (length work) ≡ accepted (found s) → Back (accepted (found s))
       tree-given t q g = from-tree q t (g .result .0) (g .result .1)
 
+-- what finding comes to is what it comes to on the sheet that the text means, or the text's refusal
+module _ (text : List ℕ) (tree work : ℕ) where
+  pub refused-found : (k n : ℕ) → readSheet text ≡ refused k n → findText text tree work ≡ refused k n
+  unfolding findText
+  refused-found = on-refusal text (λ s. findSheet s tree work)
+
+  pub sheet-found : (x : TimedSheet) → readSheet text ≡ accepted x → findText text tree work ≡ findSheet (x .sheet) tree work
+  unfolding findText
+  sheet-found = on-sheet text (λ s. findSheet s tree work)
+
 module _ (text : List ℕ) {tree treeAfter work workAfter : List ℕ} {answer : Priced} where
-  -- what finding comes to is what it comes to on the sheet that the text means, or the text's refusal
-  refused-found : (k n : ℕ) → readSheet text ≡ refused k n → findText text (length tree) (length work) ≡ refused k n
-  unfolding findText
-  refused-found = on-refusal text (λ s. findSheet s (length tree) (length work))
-
-  sheet-found : (x : TimedSheet) → readSheet text ≡ accepted x
-      → findText text (length tree) (length work) ≡ findSheet (x .sheet) (length tree) (length work)
-  unfolding findText
-  sheet-found = on-sheet text (λ s. findSheet s (length tree) (length work))
-
   module _ (f : Finds text tree treeAfter work workAfter answer) where
     -- of a text that is refused the number is reading's; it is 1 to 8
     pub refused-number : (k n : ℕ) → readSheet text ≡ refused k n → (answer .number ≡ k) × (1 ≤ k) × (k ≤ 8)
     refused-number k n e =
-        (f .number ∙ ap numberOf (refused-found k n e), refused-within text k n e .0, refused-most text k n e)
+        (f .number ∙ ap numberOf (refused-found text _ _ k n e), refused-within text k n e .0, refused-most text k n e)
 
     -- number 0: a tree is handed back
     pub handed-back : answer .number ≡ 0 → HandedBack text tree treeAfter work workAfter answer
@@ -181,7 +181,7 @@ module _ (text : List ℕ) {tree treeAfter work workAfter : List ℕ} {answer : 
         go : (o : Outcome TimedSheet) → readSheet text ≡ o → HandedBack text tree treeAfter work workAfter answer
         go (refused k n) e = let (q, one, most) = refused-number k n e in let f : ⊥ = omega arith in absurd f
         go (accepted x) e =
-            let at-sheet = subst (λ o. Gives o tree treeAfter work workAfter answer) (sheet-found x e) f in
+            let at-sheet = subst (λ o. Gives o tree treeAfter work workAfter answer) (sheet-found text _ _ x e) f in
             record { means = x; read = e; back = tree-handed-back (x .sheet) (good text x e) at-sheet z }
 
     -- a refused text: neither 0 nor 11
@@ -196,7 +196,7 @@ module _ (text : List ℕ) {tree treeAfter work workAfter : List ℕ} {answer : 
       ok = good text x read
 
       numbered : (o : Outcome Search) → findSheet s (length tree) (length work) ≡ o → answer .number ≡ numberOf o
-      numbered o e = f .number ∙ ap numberOf (sheet-found x read ∙ e)
+      numbered o e = f .number ∙ ap numberOf (sheet-found text _ _ x read ∙ e)
 
       -- a slice that is shorter than required: neither
       pub short-neither : (length work < workCells s) ⊎ (length tree < treeBytes s) → (answer .number ≡ 0 → ⊥) × (answer .number ≡ 11 → ⊥)

@@ -1,5 +1,5 @@
 -- `find` meets its contract: reading's refusal, or what `find_sheet` gives of the sheet that the text means. Assumes nothing.
-use Rattle.sheet.specs.Accepted.{sheet-held, accepted-reading}
+use Rattle.sheet.specs.Accepted.{held-sheet}
 use Rattle.finding.proofs.FindSteps.{text-refused, text-found}
 use borrow.Author.Needs.{needs}
 use Rattle.finding.proofs.find.Statement.{statement}
@@ -13,19 +13,17 @@ refused-requires c κs = search needs
 
 returns : tie.Need-returns
 returns c =
-    let start = c .before .before .before .before .before .before in
-    let read = c .before .before .read in
-    let if1 = c .before .if1 in
-    let refused = c .refused in
-    text-refused (start .args .text .now) (start .args .tree .now) (start .args .work .now) (read .result) (read .ensures) (if1 .taken) _
-    (refused .ensures)
+    let at-if1 = c .before in
+    let at-read = at-if1 .before in
+    let at-start = at-read .before .before .before .before in
+    text-refused (at-start .args .text .now) (at-start .args .tree .now) (at-start .args .work .now) (at-read .read .result)
+    (at-read .read .ensures) _ (at-if1 .if1 .taken) (c .refused .ensures)
 
 find-sheet-requires : tie.Need-find-sheet-requires
 find-sheet-requires c κs =
-    let start = c .before .before .before .before .before .before .before .before .before in
-    let read = c .before .before .before .before .before .read in
-    let if1 = c .before .before .before .before .if1 in
-    sheet-held (start .args .text .now) _ _ (accepted-reading (start .args .text .now) (read .result) (read .ensures) (if1 .left))
+    let at-if1 = c .before .before .before .before in
+    let at-read = at-if1 .before in
+    held-sheet _ (at-read .read .result) (at-read .read .ensures) (at-if1 .if1 .left)
 
 same-length : tie.Need-same-length
 same-length c = search needs
@@ -35,12 +33,12 @@ same-length-2 c = search needs
 
 returns-2 : tie.Need-returns-2
 returns-2 c =
-    let start = c .before .before .before .before .before .before .before .before .before .before .before .before .before .before in
-    let read = c .before .before .before .before .before .before .before .before .before .before .read in
-    let if1 = c .before .before .before .before .before .before .before .before .before .if1 in
-    let find-sheet = c .before .before .before .before .find-sheet in
-    text-found (start .args .text .now) (start .args .tree .now) _ (start .args .work .now) _ _ _ _ (find-sheet .ensures)
-    (accepted-reading (start .args .text .now) (read .result) (read .ensures) (if1 .left))
+    let at-sheet = c .before .before .before .before in
+    let at-if1 = at-sheet .before .before .before .before .before in
+    let at-read = at-if1 .before in
+    let at-start = at-read .before .before .before .before in
+    text-found (at-start .args .text .now) (at-start .args .tree .now) (at-start .args .work .now) (at-read .read .result)
+    (at-read .read .ensures) _ _ _ (at-if1 .if1 .left) (at-sheet .find-sheet .ensures)
 
 pub find-spec : {M : Type 1} → statement M
 find-spec =
