@@ -75,7 +75,7 @@ fn leaf_move(units: &[u32; 513], over: Interval, n: u8, carried: u8) -> Move {
     if 3 < late {
         return Move::Refused;
     }
-    if n != token_of((carried as usize) + here.early) {
+    if n != token_of((carried as usize) + here.early, 1) {
         return Move::Refused;
     }
     Move::Leaf { late: late as u8 }
