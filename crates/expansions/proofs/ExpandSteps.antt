@@ -24,7 +24,7 @@ use Rattle.expansions.specs.declared.Expansion.{Expansion}
 use Rattle.expansions.specs.declared.Expansion.the-variants.{Refused, Leaf, Division}
 use Rattle.expansions.specs.Tables.{cellOf}
 use Rattle.expansions.specs.RuleCells.{DivisionRule, division-rule}
-use Rattle.expansions.specs.Items.{itemOf, LeafFits, LeafUnfit, AsLeaf, AsDivision, LeafMade, DivisionMade, Expands}
+use Rattle.expansions.specs.Items.{firstAt, itemOf, LeafFits, LeafUnfit, AsLeaf, AsDivision, LeafMade, DivisionMade, Expands}
 
 module _ (s : Sheet) (q : ℕ) (over : Interval) (c r : ℕ) where
   expand-by : (ru : meaning.Rule) → ruleAt s r ≡ some ru → instanceOf s .expand (itemOf q over) c r ≡ expandBy s (itemOf q over) c ru
@@ -49,7 +49,7 @@ module _ (s : Sheet) (q : ℕ) (over : Interval) (c r : ℕ) where
       l = lateCount s (over .left .0) (over .len .0)
 
       k : ℕ
-      k = token (c + earlyCount s (over .left .0) (over .len .0))
+      k = token (c + earlyCount s (over .left .0) (over .len .0)) (firstAt s (over .left .0))
 
       go : Dec (l ≤ 3) → Dec (n ≡ k) → cond (leb l 3) (cond (eqb n k) (some (atLeaf s (itemOf q over))) none) none ≡ none
       go (no a) b = rw (lt-leb l 3 (omega arith))
@@ -60,7 +60,7 @@ module _ (s : Sheet) (q : ℕ) (over : Interval) (c r : ℕ) where
       → LeafMade s (itemOf q over) c r w e l d
   leaf-made w n e l d f m =
       let few : lateCount s (over .left .0) (over .len .0) ≤ 3 = omega (arith, m .few, m .counts .late) in
-      let kind = m .kind ∙ ap (λ x. token (c + x)) (m .counts .early) in
+      let kind = m .kind ∙ ap (λ x. token (c + x) (firstAt s (over .left .0))) (m .counts .early) in
       record {
         n = n;
         rule = f;

@@ -13,7 +13,7 @@ use Rattle.slices.specs.Every.{Every}
 use Rattle.sheet.specs.Sheet.{Onset, Sheet}
 use Rattle.trees.specs.ValidTrees.{whose, isEarly, inside, early, late, distanceTo}
 use Rattle.trees.specs.Instance.{onsetsIn, earlyCount, lateCount, ownDistance}
-use Rattle.trees.specs.Onsets.{onsets-most, early-late, inside-bounds, own-distance-most}
+use Rattle.trees.specs.Onsets.{onsets-most, onsets-before, early-late, inside-bounds, own-distance-most}
 use Rattle.expansions.specs.Items.{interval, firstAt, Here, PlacedAt}
 use Rattle.expansions.specs.Places.{unitFrom, cell-is, inside-then, first-behind}
 
@@ -53,7 +53,7 @@ module _ {s : Sheet} {us : List ℕ} {left len from : ℕ} (h : Here s us (inter
   none-counted = (
     inside s left len,
     record {
-      in-list = omega (arith, h .first, onsets-most s 0 left);
+      in-list = omega (arith, h .first, onsets-before s left, onsets-most s 0 left);
       place = ap (λ n. drop n (s .playing .onsets)) (h .first) ∙ inside-then s (h .onsets .good) left len (h .within);
       bounds = inside-bounds s left len;
       soon = omega arith;

@@ -8,8 +8,8 @@ use lib.ListN.{length}
 use Rattle.sheet.specs.Sheet.{division, leaf, Sheet}
 use Rattle.sheet.specs.Held.{units}
 use Rattle.derivations.specs.Derivation.{Item}
-use Rattle.trees.specs.ValidTrees.{ruleAt, mayDivide, token}
-use Rattle.trees.specs.Instance.{onsetsIn, earlyCount, lateCount, ownDistance, atLeaf, atDivision, instanceOf}
+use Rattle.trees.specs.ValidTrees.{onsetsBefore, ruleAt, mayDivide, token}
+use Rattle.trees.specs.Instance.{earlyCount, lateCount, ownDistance, atLeaf, atDivision, instanceOf}
 use Rattle.expansions.specs.declared.Interval.{Interval}
 use Rattle.expansions.specs.declared.Placed.{Placed}
 use Rattle.expansions.specs.declared.Expansion.{Expansion}
@@ -22,7 +22,7 @@ interval left len = record { left = units left; len = units len }
 
 -- the place of the first onset at or behind unit u: how many onsets are before it
 abbrev pub firstAt : Sheet → ℕ → ℕ
-firstAt s u = onsetsIn s 0 u
+firstAt s u = onsetsBefore s u
 
 -- the units are those of the sheet, the interval is within the longest piece, and `from` is the first onset at or behind its left bound
 pub record Here (s : Sheet) (units : List ℕ) (over : Interval) (from : ℕ) : Type 0 where
@@ -56,13 +56,14 @@ itemOf q over = record { nonterminal = q; left = over .left .0; len = over .len 
 -- a leaf of this n fits the interval, into which c onsets are carried
 pub record LeafFits (s : Sheet) (left len c n : ℕ) (e l d : ℕ) : Type 0 where
   pub counts : Counts s left len e l d
-  pub kind : n ≡ token (c + e)
+  pub kind : n ≡ token (c + e) (firstAt s left)
   pub few : l ≤ 3
 
--- it does not: more than three are late, or n is not the token kind of what is placed
+-- it does not: more than three are late, or n is not the token kind of what is placed and of what lies before
 abbrev pub LeafUnfit : Sheet → Interval → ℕ → ℕ → Type 0
 LeafUnfit s over c n =
-    lateCount s (over .left .0) (over .len .0) ≤ 3 → n ≡ token (c + earlyCount s (over .left .0) (over .len .0)) → ⊥
+    lateCount s (over .left .0) (over .len .0) ≤ 3
+    → n ≡ token (c + earlyCount s (over .left .0) (over .len .0)) (firstAt s (over .left .0)) → ⊥
 
 -- what `leaf_at` gives
 abbrev pub AsLeaf : Sheet → Interval → ℕ → ℕ → ℕ → Expansion → Type 0

@@ -14,10 +14,10 @@ use Rattle.slices.specs.Test.{and-both}
 use Rattle.slices.specs.Pad.{pad, getD-pad, length-pad}
 use Rattle.sheet.specs.Sheet.{Onset, Playing, Sheet}
 use Rattle.sheet.specs.Good.{GoodOnsets}
-use Rattle.trees.specs.ValidTrees.{whose, inside}
+use Rattle.trees.specs.ValidTrees.{whose, inside, onsetsBefore}
 use Rattle.trees.specs.Instance.{onsetsIn}
 use Rattle.trees.specs.Order.{within, within-append, within-all}
-use Rattle.trees.specs.Onsets.{onsets-add, onsets-none, onsets-most, whose-passes}
+use Rattle.trees.specs.Onsets.{onsets-add, onsets-none, onsets-most, onsets-before, whose-passes}
 use Rattle.expansions.specs.Tables.{lastUnit, unitIn, unitCells}
 use Rattle.expansions.specs.Items.{firstAt}
 
@@ -61,7 +61,7 @@ module _ (s : Sheet) (good : GoodOnsets (s .playing)) where
   all-before = every-weaken _ (λ (o : Onset). o .unit < lastUnit) (λ o h. omega (arith, good .sixty-four)) os (good .below)
 
   drop-first : (l : ℕ) → l ≤ lastUnit → drop (firstAt s l) os ≡ behind l
-  unfolding onsetsIn inside
+  unfolding onsetsBefore inside
   drop-first l h =
       let whole = within-append 0 l lastUnit 0 os (omega arith) h (good .rising) ∙ within-all lastUnit os all-before in
       ap (λ n. drop n os) (ap (λ r. length (whose (within 0 r) os)) (zero-add l))
@@ -84,11 +84,13 @@ module _ (s : Sheet) (good : GoodOnsets (s .playing)) where
       go (o ∷ xs) e = within-low l lastUnit (o .unit) (e .0)
 
   pub first-most : (l : ℕ) → firstAt s l ≤ 512
-  first-most l = omega (arith, onsets-most s 0 l, good .most)
+  first-most l = omega (arith, onsets-before s l, onsets-most s 0 l, good .most)
 
   -- the onsets before an interval's right bound are those before its left bound and those inside
   pub first-next : (l n : ℕ) → firstAt s (l + n) ≡ firstAt s l + onsetsIn s l n
-  first-next l n = onsets-add s 0 l n ∙ ap (λ x. onsetsIn s 0 l + onsetsIn s x n) (zero-add l)
+  first-next l n =
+      onsets-before s (l + n) ∙ onsets-add s 0 l n ∙ ap (λ x. onsetsIn s 0 l + onsetsIn s x n) (zero-add l)
+      ∙ ap (_+ onsetsIn s l n) (sym (onsets-before s l))
 
   pub first-zero : firstAt s 0 ≡ 0
-  first-zero = onsets-none s 0
+  first-zero = onsets-before s 0 ∙ onsets-none s 0

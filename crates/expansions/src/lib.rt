@@ -115,9 +115,9 @@ pub fn pack_units(p: PlayingTable) -> [u32; 513]
     out
 }
 
-// The token kind of a placed count.
-pub fn token_of(placed: usize) -> u8
-    ensures { λ r. ⌜ r ≡ token placed ⌝ }
+// The token kind of a leaf by its placed count and the number of onsets before its left bound, which does not change it.
+pub fn token_of(placed: usize, before: usize) -> u8
+    ensures { λ r. ⌜ r ≡ token placed before ⌝ }
 {
     if placed < 3 { placed as u8 } else { 3 }
 }
@@ -170,7 +170,7 @@ fn leaf_at(
     if 3 < late {
         return Expansion::Refused;
     }
-    if n != token_of(carried + early) {
+    if n != token_of(carried + early, from) {
         return Expansion::Refused;
     }
     Expansion::Leaf {

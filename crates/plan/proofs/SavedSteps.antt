@@ -30,13 +30,14 @@ pub packed-cell-least : (s : Sheet) → GoodRules (s .grammar) → (leaves : Lis
 packed-cell-least s good leaves t q n hq hn = ap (_/ 64) (t q n hq hn) ∙ packed-leaf-is s good q n
 
 -- the cells of two kinds
-pub saved-cell : (s : Sheet) → GoodRules (s .grammar) → (leaves : List ℕ) → PackedLeaves s leaves → (q c e k : ℕ) → q < 16 → e < 4
-    → k ≡ token (c + e) → getD leaves (4 * q + e) 0 / 64 - getD leaves (4 * q + k) 0 / 64 ≡ savedAt s q c e
-saved-cell s good leaves t q c e k hq he ek =
+pub saved-cell : (s : Sheet) → GoodRules (s .grammar) → (leaves : List ℕ) → PackedLeaves s leaves → (q c e j k : ℕ) → q < 16
+    → j ≡ token e 1 → k ≡ token (c + e) 1 → getD leaves (4 * q + j) 0 / 64 - getD leaves (4 * q + k) 0 / 64 ≡ savedAt s q c e
+saved-cell s good leaves t q c e j k hq ej ek =
     omega (
       arith,
-      packed-cell-least s good leaves t q e hq he,
-      packed-cell-least s good leaves t q k hq (omega (arith, ek, token-below (c + e))),
+      packed-cell-least s good leaves t q j hq (omega (arith, ej, token-below e 1)),
+      packed-cell-least s good leaves t q k hq (omega (arith, ek, token-below (c + e) 1)),
+      ap (leastLeaf s q) ej,
       ap (leastLeaf s q) ek,
     )
 

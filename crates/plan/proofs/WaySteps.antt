@@ -11,15 +11,16 @@ use Rattle.slices.specs.Every.{every-in}
 use Rattle.sheet.specs.declared.table.Rule as held
 use Rattle.sheet.specs.declared.table.Rule.the-variants.{Division, Leaf}
 use Rattle.sheet.specs.Sheet.{Sheet}
-use Rattle.trees.specs.ValidTrees.{ruleAt, weightAt}
+use Rattle.sheet.specs.Good.{GoodRules}
+use Rattle.trees.specs.ValidTrees.{ruleAt, token, weightAt}
 use Rattle.trees.specs.LeastTotal.{NONE}
 use Rattle.trees.specs.Room.{good-division}
 use Rattle.expansions.specs.Tables.{unpackedOf, cellOf}
 use Rattle.expansions.specs.RuleCells.{leaf≢division}
 use Rattle.plan.specs.Leaves.{leastLeaf}
 use Rattle.plan.specs.Ways.{sumTo, sum-next, besideAt, besideSum, beside}
-use Rattle.plan.specs.PlanLaws.{child-in}
-use Rattle.plan.specs.Sections.{PartBeside, DivisionHeld, WayIs, WayOf}
+use Rattle.plan.specs.PlanLaws.{child-in, token-below}
+use Rattle.plan.specs.Sections.{PackedLeaves, PartBeside, DivisionHeld, WayIs, WayOf}
 use Rattle.plan.proofs.RuleSteps.{cell-read, division-weight}
 use Rattle.plan.proofs.SavedSteps.{packed-cell-least}
 
@@ -33,13 +34,17 @@ module _ (leaves : List ℕ) (q i j n : ℕ) where
   pub beside-past : 16 ≤ q → PartBeside leaves q i j n 0
   beside-past past s good t h = absurd (omega arith)
 
-  pub right-behind : n < 4 → (i ≡ j → ⊥) → i ≡ j + 1 → PartBeside leaves q i j n (getD leaves (4 * q + n) 0 / 64)
-  right-behind hn f e s good t h = rw (ne-eqb i j f, eq-eqb i (j + 1) e) (packed-cell-least s good leaves t q n h hn)
+  -- the least leaf of the kind of m placed
+  of-kind : (m k : ℕ) → k ≡ token m 1 → (s : Sheet) → GoodRules (s .grammar) → PackedLeaves s leaves → q < 16
+      → getD leaves (4 * q + k) 0 / 64 ≡ leastLeaf s q (token m 1)
+  of-kind m k ek s good t h =
+      packed-cell-least s good leaves t q k h (omega (arith, ek, token-below m 1)) ∙ ap (leastLeaf s q) ek
 
-  pub elsewhere : (i ≡ j → ⊥) → (i ≡ j + 1 → ⊥) → PartBeside leaves q i j n (getD leaves (4 * q) 0 / 64)
-  elsewhere f g s good t h =
-      rw (ne-eqb i j f, ne-eqb i (j + 1) g)
-      (ap (λ (z : ℕ). getD leaves z 0 / 64) (omega arith) ∙ packed-cell-least s good leaves t q 0 h (omega arith))
+  pub right-behind : (k : ℕ) → k ≡ token n 1 → (i ≡ j → ⊥) → i ≡ j + 1 → PartBeside leaves q i j n (getD leaves (4 * q + k) 0 / 64)
+  right-behind k ek f e s good t h = rw (ne-eqb i j f, eq-eqb i (j + 1) e) (of-kind n k ek s good t h)
+
+  pub elsewhere : (k : ℕ) → k ≡ token 0 1 → (i ≡ j → ⊥) → (i ≡ j + 1 → ⊥) → PartBeside leaves q i j n (getD leaves (4 * q + k) 0 / 64)
+  elsewhere k ek f g s good t h = rw (ne-eqb i j f, ne-eqb i (j + 1) g) (of-kind 0 k ek s good t h)
 
 -- ---- part after part
 
@@ -65,7 +70,7 @@ module _ (children leaves : List ℕ) (r k j n : ℕ) where
       (good-division s (t .good) r (d .head) (d .weight) ks (d .rule) .parts) in
       let part : y ≡ besideAt s ks j n i =
       here s (t .good) (t .leaves-are) (omega (arith, child, kid, t .good .sixteen))
-      ∙ ap (λ (z : ℕ). cond (eqb i j) 0 (leastLeaf s z (cond (eqb i (j + 1)) n 0))) child in
+      ∙ ap (λ (z : ℕ). cond (eqb i j) 0 (leastLeaf s z (token (cond (eqb i (j + 1)) n 0) 1))) child in
       omega (arith, so-far s ks d, part, sum-next (besideAt s ks j n) i)
 
   pub beside-all : (i x : ℕ) → i ≡ k → BesideUpto children leaves r k j n i x → (s : Sheet) (ks : List ℕ)

@@ -26,10 +26,10 @@ lengths s = lengthCount (s .grammar .rules)
 abbrev pub lengthAt : Sheet → ℕ → ℕ
 lengthAt s l = getD (lengthsOf (s .grammar .rules)) l 0
 
--- by how much a leaf of nonterminal q that e onsets are early in is cheaper with c onsets carried in than with none; 0 where it is not. A
--- leaf that no rule makes costs the cap, and is not cheaper than any.
+-- by how much a leaf of nonterminal q that e onsets are early in, with an onset before it, is cheaper with c onsets carried in than with
+-- none; 0 where it is not. A leaf that no rule makes costs the cap, and is not cheaper than any.
 abbrev pub savedAt : Sheet → (q c e : ℕ) → ℕ
-savedAt s q c e = leastLeaf s q e - leastLeaf s q (token (c + e))
+savedAt s q c e = leastLeaf s q (token e 1) - leastLeaf s q (token (c + e) 1)
 
 -- the most of it, over all nonterminals and kinds
 unfoldable pub savedBy : Sheet → (c : ℕ) → ℕ

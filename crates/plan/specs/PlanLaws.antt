@@ -107,11 +107,11 @@ module _ (s : Sheet) (plan : List ℕ) (p : Prepared s plan) where
 
 -- ---- token kinds
 
-pub token-below : (e : ℕ) → token e < 4
-token-below zero = omega arith
-token-below (suc zero) = omega arith
-token-below (suc (suc zero)) = omega arith
-token-below (suc (suc (suc e))) = omega arith
+pub token-below : (e b : ℕ) → token e b < 4
+token-below zero b = omega arith
+token-below (suc zero) b = omega arith
+token-below (suc (suc zero)) b = omega arith
+token-below (suc (suc (suc e))) b = omega arith
 
 -- ---- the part of a length
 

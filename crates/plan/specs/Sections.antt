@@ -10,7 +10,7 @@ use lib.ListN.{length, getD}
 use Rattle.sheet.specs.Sheet.{division, Sheet}
 use Rattle.sheet.specs.Good.{GoodRules}
 use Rattle.sheet.specs.Held.{partsOf, childCells}
-use Rattle.trees.specs.ValidTrees.{ruleAt}
+use Rattle.trees.specs.ValidTrees.{ruleAt, token}
 use Rattle.trees.specs.LeastTotal.{NONE}
 use Rattle.expansions.specs.Tables.{RulesHeld}
 use Rattle.plan.specs.Leaves.{leafCost, leastLeaf}
@@ -66,7 +66,8 @@ pub record LengthCells (lens : List ℕ) (count : ℕ) : Type 0 where
 -- x is what part i, of nonterminal q, costs beside part j
 abbrev pub PartBeside : (leaves : List ℕ) (q i j n x : ℕ) → Type 0
 PartBeside leaves q i j n x =
-    (s : Sheet) → GoodRules (s .grammar) → PackedLeaves s leaves → q < 16 → x ≡ cond (eqb i j) 0 (leastLeaf s q (cond (eqb i (j + 1)) n 0))
+    (s : Sheet) → GoodRules (s .grammar) → PackedLeaves s leaves → q < 16
+    → x ≡ cond (eqb i j) 0 (leastLeaf s q (token (cond (eqb i (j + 1)) n 0) 1))
 
 -- the children and the packed leaf cells are a sheet's
 pub record PartsHeld (s : Sheet) (children leaves : List ℕ) : Type 0 where

@@ -8,7 +8,7 @@ use native.Mathlib.Numerals.{add-one}
 use lib.Dec.{eqb, ltb}
 use lib.ListN.{length, getD}
 use Rattle.sheet.specs.Sheet.{Sheet}
-use Rattle.trees.specs.ValidTrees.{weightAt}
+use Rattle.trees.specs.ValidTrees.{token, weightAt}
 use Rattle.trees.specs.LeastTotal.{NONE}
 use Rattle.plan.specs.Leaves.{leastLeaf}
 
@@ -19,9 +19,9 @@ unfoldable pub sumTo : (ℕ → ℕ) → ℕ → ℕ
 sumTo f zero = 0
 sumTo f (suc n) = sumTo f n + f n
 
--- part i beside part j: nothing at j, the least leaf of n right behind it, and of nothing elsewhere
+-- part i beside part j, with an onset before it: nothing at j, the least leaf of n placed right behind it, and of nothing elsewhere
 abbrev pub besideAt : Sheet → (kids : List ℕ) → (j n i : ℕ) → ℕ
-besideAt s kids j n i = cond (eqb i j) 0 (leastLeaf s (getD kids i 0) (cond (eqb i (j + 1)) n 0))
+besideAt s kids j n i = cond (eqb i j) 0 (leastLeaf s (getD kids i 0) (token (cond (eqb i (j + 1)) n 0) 1))
 
 -- the sum over the parts
 unfoldable pub besideSum : Sheet → (kids : List ℕ) → (j n : ℕ) → ℕ

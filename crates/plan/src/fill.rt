@@ -140,7 +140,7 @@ fn larger(a: u64, b: u64) -> u64
     if a < b { b } else { a }
 }
 
-// The most that a leaf of nonterminal q is cheaper with c onsets carried in than with none.
+// The most that a leaf of nonterminal q with an onset before it is cheaper with c onsets carried in than with none.
 fn saved_at(leaves: &[u64; 64], q: usize, c: usize) -> u64
     requires { ⌜ (q < 16) × (c < 4) ⌝ }
     ensures { λ x. ⌜
@@ -150,8 +150,9 @@ fn saved_at(leaves: &[u64; 64], q: usize, c: usize) -> u64
     let mut most: u64 = 0;
     let mut e: usize = 0;
     while e < 4 {
-        let kind = token_of(c + e) as usize;
-        let x = excess(leaves[4 * q + e] / 64, leaves[4 * q + kind] / 64);
+        let none = token_of(e, 1) as usize;
+        let some = token_of(c + e, 1) as usize;
+        let x = excess(leaves[4 * q + none] / 64, leaves[4 * q + some] / 64);
         most = larger(most, x);
         e += 1;
     }

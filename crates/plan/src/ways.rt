@@ -7,6 +7,7 @@ ghost use Rattle.trees.specs.ValidTrees.{weightAt};
 ghost use Rattle.plan.specs.Ways.{besideSum, beside};
 ghost use Rattle.plan.specs.Sections.{Small, Wide, PartBeside, DivisionHeld, WayIs, WayOf};
 use expansions::rule_at;
+use expansions::token_of;
 use sheet::Rule;
 
 // What stands for "no tree", above every total.
@@ -22,7 +23,7 @@ fn smaller(a: u64, b: u64) -> u64
     if a < b { a } else { b }
 }
 
-// What part i, of nonterminal q, costs beside part j: as a leaf of n right behind it, of nothing elsewhere.
+// What part i, of nonterminal q, costs beside part j, with an onset before it: as a leaf of n placed right behind it, of nothing elsewhere.
 fn leaf_beside(leaves: &[u64; 64], q: usize, i: usize, j: usize, n: usize) -> u64
     requires { ⌜ (j < 8) × (n < 4) × Wide (now leaves) ⌝ }
     ensures { λ x. ⌜ (x < 288230376151711744) × PartBeside (now (leaves .entry)) q i j n x ⌝ }
@@ -34,9 +35,11 @@ fn leaf_beside(leaves: &[u64; 64], q: usize, i: usize, j: usize, n: usize) -> u6
         return 0;
     }
     if i == j + 1 {
-        return leaves[4 * q + n] / 64;
+        let kind = token_of(n, 1) as usize;
+        return leaves[4 * q + kind] / 64;
     }
-    leaves[4 * q] / 64
+    let kind = token_of(0, 1) as usize;
+    leaves[4 * q + kind] / 64
 }
 
 // The sum over the k parts of rule r.

@@ -9,13 +9,14 @@ use Rattle.sheet.specs.declared.clock.Units.{Units}
 use Rattle.sheet.specs.Sheet.{Sheet}
 use Rattle.derivations.specs.Derivation.{Item}
 use Rattle.derivations.specs.Minima.{lowest, only, only-same}
+use Rattle.trees.specs.ValidTrees.{token}
 use Rattle.trees.specs.Room.{good-division}
 use Rattle.trees.specs.LeastTotal.{NONE}
 use Rattle.expansions.specs.Tables.{lastUnit}
-use Rattle.expansions.specs.Items.{itemOf}
+use Rattle.expansions.specs.Items.{firstAt, itemOf}
 use Rattle.expansions.specs.Places.{first-most}
 use Rattle.plan.specs.Plan.{lengthAt, leastLeaf, leafCell, lengthCell, firstCell, lastCell, ruleCount, DivisionsIn, Divides}
-use Rattle.plan.specs.PlanLaws.{lengths-most, least-leaf-most, leaf-cell-least, length-positive}
+use Rattle.plan.specs.PlanLaws.{lengths-most, least-leaf-most, leaf-cell-least, length-positive, token-below}
 use Rattle.plan.specs.Packed.{packedLeaf, packed-leaf-most}
 use Rattle.rows.specs.declared.slots.Bar.{Bar}
 use Rattle.rows.specs.Vectors.{vec, Low, lowered, totalsOf}
@@ -53,7 +54,7 @@ module _ {s : Sheet} {plan units rows : List ℕ} {bar : Bar} {q l : ℕ} {left 
   lift-more {t = t} row et e =
       taken-more (h .taken) (h .stands .in-bar .prepared .good) (h .few) row et (e ∙ ap (λ (x : ℕ). lowered o x t) (h .total-is))
 
--- ---- `part` calls `least_leaf`, or `lift` for each carry state
+-- ---- `part` calls `least_placed`, or `lift` for each carry state
 
 module _ {s : Sheet} {plan units rows : List ℕ} {bar : Bar} {q l : ℕ} {left : Units} {from to : ℕ} {v : List ℕ}
     (h : PartEntry s plan units rows bar q l left from to v) where
@@ -61,19 +62,25 @@ module _ {s : Sheet} {plan units rows : List ℕ} {bar : Bar} {q l : ℕ} {left 
   g = itemAt s q l left
 
   -- the part has no onset: its leaf costs are looked up
-  pub leaf-asked : {n : ℕ} → n < 4 → (q < 16) × (n < 4)
-  leaf-asked k = (stands-head (h .stands), k)
+  pub leaf-asked : q < 16
+  leaf-asked = stands-head (h .stands)
 
-  module _ {w x y z : ℕ} (ew : w ≡ leafCell plan q 0 / 64) (ex : x ≡ leafCell plan q 1 / 64) (ey : y ≡ leafCell plan q 2 / 64)
-      (ez : z ≡ leafCell plan q 3 / 64) where
-    leaves-are : w ∷ x ∷ y ∷ z ∷ [] ≡ vec (leastLeaf s q)
-    leaves-are = four (ew ∙ at 0 (omega arith)) (ex ∙ at 1 (omega arith)) (ey ∙ at 2 (omega arith)) (ez ∙ at 3 (omega arith))
+  -- the least leaf that c onsets are placed at
+  abbrev leafOf : ℕ → ℕ
+  leafOf c = leastLeaf s q (token c (firstAt s (left .0)))
+
+  module _ {w x y z : ℕ} (ew : w ≡ leafCell plan q (token 0 from) / 64) (ex : x ≡ leafCell plan q (token 1 from) / 64)
+      (ey : y ≡ leafCell plan q (token 2 from) / 64) (ez : z ≡ leafCell plan q (token 3 from) / 64) where
+    leaves-are : w ∷ x ∷ y ∷ z ∷ [] ≡ vec leafOf
+    leaves-are = four (ew ∙ at 0) (ex ∙ at 1) (ey ∙ at 2) (ez ∙ at 3)
       where
-        at : (n : ℕ) → n < 4 → leafCell plan q n / 64 ≡ leastLeaf s q n
-        at n k = leaf-cell-least s plan (h .stands .in-bar .prepared) q n (stands-head (h .stands)) k
+        at : (c : ℕ) → leafCell plan q (token c from) / 64 ≡ leafOf c
+        at c =
+            leaf-cell-least s plan (h .stands .in-bar .prepared) q (token c from) (stands-head (h .stands)) (token-below c from)
+            ∙ ap (λ (b : ℕ). leastLeaf s q (token c b)) (h .stands .first)
 
     pub dot-asked : Low (w ∷ x ∷ y ∷ z ∷ []) × Low v
-    dot-asked = (low-eq _ (leastLeaf s q) leaves-are (least-leaf-most s q), h .low)
+    dot-asked = (low-eq _ leafOf leaves-are (λ c. least-leaf-most s q (token c (firstAt s (left .0)))), h .low)
 
     pub part-empty : {d : ℕ} → to ≤ from → d ≡ lowest NONE (λ m. getD (w ∷ x ∷ y ∷ z ∷ []) m 0 + getD v m 0) 4
         → Taken s rows g v 4 (d ∷ NONE ∷ NONE ∷ NONE ∷ [])
@@ -149,12 +156,12 @@ module _ {s : Sheet} {plan units rows : List ℕ} {bar : Bar} {q l : ℕ} {left 
   entry-first = omega (arith, e .stands .first, first-most s (e .stands .in-bar .onsets .good) (left .0))
 
   -- none does: the item is a leaf of what is carried in, and nothing is carried on
-  pub entry-asked : (q < 16) × (c < 4)
-  entry-asked = (stands-head (e .stands), e .few)
+  pub entry-asked : {kind : ℕ} → kind ≡ token c from → (q < 16) × (kind < 4)
+  entry-asked ek = (stands-head (e .stands), omega (arith, ek, token-below c from))
 
-  pub entry-leaf : {w : ℕ} → left .0 + len .0 ≤ getD units from 0 → w ≡ leafCell plan q c
+  pub entry-leaf : {kind w : ℕ} → left .0 + len .0 ≤ getD units from 0 → kind ≡ token c from → w ≡ leafCell plan q kind
       → Row s rows (itemAt s q l left) c (w ∷ 64 * NONE ∷ 64 * NONE ∷ 64 * NONE ∷ [])
-  entry-leaf {w} k f =
+  entry-leaf {kind} {w} k ek f =
       record {
         is = four zeroth (other 1 (omega arith) (λ z. omega arith)) (other 2 (omega arith) (λ z. omega arith))
             (other 3 (omega arith) (λ z. omega arith));
@@ -164,7 +171,7 @@ module _ {s : Sheet} {plan units rows : List ℕ} {bar : Bar} {q l : ℕ} {left 
       g : Item
       g = itemAt s q l left
 
-      cell : (x : ℕ) → x < 4 → packedCell s g c x ≡ min (64 * NONE) (packedLeaf s q c + 64 * only NONE 0 x)
+      cell : (x : ℕ) → x < 4 → packedCell s g c x ≡ min (64 * NONE) (packedLeaf s q (token c (firstAt s (left .0))) + 64 * only NONE 0 x)
       cell x h =
           packed-cell-empty s (e .stands .in-bar .prepared .good) g c x (e .few) h (stands-none (e .stands) (omega (arith, same-len)))
 
@@ -173,10 +180,11 @@ module _ {s : Sheet} {plan units rows : List ℕ} {bar : Bar} {q l : ℕ} {left 
           omega (
             arith,
             f,
-            e .stands .in-bar .prepared .leaves q c (entry-asked .0) (e .few),
+            e .stands .in-bar .prepared .leaves q kind (entry-asked ek .0) (entry-asked ek .1),
+            ap (packedLeaf s q) (ek ∙ ap (token c) (e .stands .first)),
             cell 0 (omega arith),
             only-same NONE 0,
-            packed-leaf-most s q c,
+            packed-leaf-most s q kind,
           )
 
       other : (x : ℕ) → x < 4 → (x ≡ 0 → ⊥) → 64 * NONE ≡ packedCell s g c x

@@ -1,6 +1,6 @@
 -- The cells of a sheet by its rules: a cell is the lesser of what a leaf totals and of what the divisions total. The text of the cells is
 -- unfolded in the first two laws alone.
-use Prim.Native.Nat.{ℕ, zero, suc, _+_, _*_, _/_, _%_, _≤_, _<_, min}
+use Prim.Native.Nat.{ℕ, _+_, _*_, _/_, _%_, _≤_, _<_, min}
 use mathlib.Core.Path.{_≡_, refl, sym, ap, _∙_}
 use mathlib.Core.Bool.{true, false, false≢true}
 use mathlib.Core.List.{List}
@@ -17,7 +17,7 @@ use Rattle.derivations.specs.Derivation.{Item, Expansion}
 use Rattle.derivations.specs.Minima.{lowest, only}
 use Rattle.derivations.specs.Table.{via, ruleTotal, forward}
 use Rattle.derivations.specs.Cells.{cell-cap, cell-step}
-use Rattle.trees.specs.ValidTrees.{row, ruleAt, mayDivide, token, weightOf, weightAt}
+use Rattle.trees.specs.ValidTrees.{onsetsBefore, row, ruleAt, mayDivide, token, weightOf, weightAt}
 use Rattle.trees.specs.Instance.{onsetsIn, earlyCount, lateCount, ownDistance, atLeaf, atDivision, instanceOf}
 use Rattle.trees.specs.LeastTotal.{NONE, carries, cellOf}
 use Rattle.trees.specs.Expansions.{Step, step-of, leaf-expands, division-expands, may-divide}
@@ -27,12 +27,13 @@ use Rattle.plan.specs.Leaves.{ruleCount, leafCost, leastLeaf}
 use Rattle.rows.specs.VectorLaws.{only-other, lowest-capped, lowest-both, lowest-more, lowest-none}
 
 -- what a leaf at an item totals that c onsets are carried into, by carry state behind it: the least leaf rule of the kind of what is placed
+-- and lies before
 unfoldable pub leafTotal : Sheet → Item → (c m : ℕ) → ℕ
-unfolding leastLeaf earlyCount ownDistance lateCount only
+unfolding leastLeaf earlyCount onsetsBefore ownDistance lateCount only
 leafTotal s g c m =
     min NONE
-    (leastLeaf s (g .nonterminal) (token (c + earlyCount s (g .left) (g .len))) + ownDistance s (g .left) (g .len)
-    + only NONE (lateCount s (g .left) (g .len)) m)
+    (leastLeaf s (g .nonterminal) (token (c + earlyCount s (g .left) (g .len)) (onsetsBefore s (g .left)))
+    + ownDistance s (g .left) (g .len) + only NONE (lateCount s (g .left) (g .len)) m)
 
 -- what rule r totals at an item from carry state c to m, its parts by the cells
 unfoldable pub totalBy : Sheet → Item → (c m r : ℕ) → ℕ
@@ -48,14 +49,6 @@ divisionBy (some (division h w ks)) x = x
 
 unfoldable pub divisionTotal : Sheet → Item → (c m r : ℕ) → ℕ
 divisionTotal s g c m r = divisionBy (ruleAt s r) (totalBy s g c m r)
-
--- the token kind of so few placed onsets is their number
-pub token-small : (c : ℕ) → c < 4 → token c ≡ c
-token-small zero h = refl
-token-small (suc zero) h = refl
-token-small (suc (suc zero)) h = refl
-token-small (suc (suc (suc zero))) h = refl
-token-small (suc (suc (suc (suc c)))) h = let none : ⊥ = omega arith in absurd none
 
 leaf-head : {h w n h′ w′ n′ : ℕ} → some (leaf h w n) ≡ some (leaf h′ w′ n′) → h ≡ h′
 leaf-head e = cc
@@ -104,7 +97,7 @@ module _ (s : Sheet) where
   behindLeaf g m = ownDistance s (g .left) (g .len) + only NONE (lateCount s (g .left) (g .len)) m
 
   abbrev pub kindOf : Item → (c : ℕ) → ℕ
-  kindOf g c = token (c + earlyCount s (g .left) (g .len))
+  kindOf g c = token (c + earlyCount s (g .left) (g .len)) (onsetsBefore s (g .left))
 
   abbrev pub costAsLeaf : Item → (c : ℕ) → Option Rule → ℕ
   costAsLeaf g c o = leafCost (s .grammar .multiplier) (g .nonterminal) (kindOf g c) o
@@ -250,10 +243,10 @@ module _ (s : Sheet) where
         leaf-total-most s g c m,
       )
 
-  -- with nothing carried on, and no distance
+  -- of what is carried in, with nothing carried on, and no distance
   pub cell-empty : GoodRules (s .grammar) → (g : Item) (c m : ℕ) → c < 4 → m < 4 → onsetsIn s (g .left) (g .len) ≡ 0
-      → cellOf s g c m ≡ min NONE (leastLeaf s (g .nonterminal) c + only NONE 0 m)
+      → cellOf s g c m ≡ min NONE (leastLeaf s (g .nonterminal) (token c (onsetsBefore s (g .left))) + only NONE 0 m)
   unfolding leafTotal
   cell-empty good g c m hc hm e =
       cell-leaf good g c m hc hm e
-      ∙ rw (none-early g e, none-late g e, no-distance g e, add-zero c, token-small c hc) (omega arith)
+      ∙ rw (none-early g e, none-late g e, no-distance g e, add-zero c) (omega arith)

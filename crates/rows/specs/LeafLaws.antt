@@ -12,7 +12,7 @@ use Rattle.trees.specs.Onsets.{onsets-most, early-late, own-distance-most}
 use Rattle.trees.specs.LeastTotal.{NONE}
 use Rattle.expansions.specs.declared.Interval.{Interval}
 use Rattle.expansions.specs.declared.Placed.{Placed}
-use Rattle.expansions.specs.Items.{PlacedAt, itemOf}
+use Rattle.expansions.specs.Items.{firstAt, PlacedAt, itemOf}
 use Rattle.plan.specs.Plan.{leafCell}
 use Rattle.plan.specs.PlanLaws.{token-below, leaf-cell-most}
 use Rattle.plan.specs.Packed.{packedLeaf}
@@ -43,15 +43,16 @@ module _ {s : Sheet} {plan units : List ℕ} {q : ℕ} {over : Interval} {from c
       mul-le-mul {n₂ = 1290240} (omega (arith, h .entered .here .within)) few-onsets in
       omega (arith, placed .distance, own-distance-most s left len)
 
-  module _ {kind : ℕ} (ek : kind ≡ token (c + p .early)) where
+  module _ {kind : ℕ} (ek : kind ≡ token (c + p .early) from) where
     pub kind-asked : (q < 16) × (kind < 4)
-    kind-asked = (omega (arith, h .nonterminal, h .prepared .good .sixteen), omega (arith, ek, token-below (c + p .early)))
+    kind-asked = (omega (arith, h .nonterminal, h .prepared .good .sixteen), omega (arith, ek, token-below (c + p .early) from))
 
     module _ {w : ℕ} (ew : w ≡ leafCell plan q kind) where
       cost-is : w ≡ packedLeaf s q (kindOf s (itemOf q over) c)
       cost-is =
           ew ∙ h .prepared .leaves q kind (kind-asked .0) (kind-asked .1)
-          ∙ ap (packedLeaf s q) (ek ∙ ap (λ (e : ℕ). token (c + e)) (placed .early))
+          ∙ ap (packedLeaf s q) (ek ∙ ap (token (c + p .early)) (h .entered .here .first)
+          ∙ ap (λ (e : ℕ). token (c + e) (firstAt s left)) (placed .early))
 
       pub cost-most : w ≤ 64 * NONE
       cost-most = omega (arith, ew, leaf-cell-most s plan (h .prepared) q kind (kind-asked .0) (kind-asked .1))

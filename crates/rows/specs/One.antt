@@ -7,7 +7,7 @@ use mathlib.Core.Option.{some}
 use lib.ListN.{length}
 use Rattle.sheet.specs.declared.clock.Units.{Units}
 use Rattle.sheet.specs.Sheet.{division, Sheet}
-use Rattle.trees.specs.ValidTrees.{ruleAt}
+use Rattle.trees.specs.ValidTrees.{ruleAt, token}
 use Rattle.trees.specs.Instance.{onsetsIn}
 use Rattle.trees.specs.LeastTotal.{NONE}
 use Rattle.expansions.specs.Tables.{UnitsHeld, lastUnit}
@@ -45,10 +45,11 @@ pub record OneEntry (s : Sheet) (plan units rows : List ℕ) (bar : Bar) (q l : 
   pub entry : SolveEntry s plan units rows bar q l left from 0 at
   pub one : onsetsIn s (left .0) (lengthAt s l) ≡ 1
 
--- cells 0 and 1 of a leaf of nonterminal q whose only onset is d behind its left bound: an onset in the first half is early
+-- cells 0 and 1 of a leaf of nonterminal q, with an onset before it, whose only onset is d behind its left bound: an onset in the first
+-- half is early
 pub record LeafOne (plan : List ℕ) (q len d : ℕ) (x : Pair) : Type 0 where
-  pub early : 2 * d < len → (x .zero ≡ min (64 * NONE) (leafCell plan q 1 + 64 * d)) × (x .one ≡ 64 * NONE)
-  pub late : len ≤ 2 * d → (x .zero ≡ 64 * NONE) × (x .one ≡ min (64 * NONE) (leafCell plan q 0 + 64 * (len - d)))
+  pub early : 2 * d < len → (x .zero ≡ min (64 * NONE) (leafCell plan q (token 1 1) + 64 * d)) × (x .one ≡ 64 * NONE)
+  pub late : len ≤ 2 * d → (x .zero ≡ 64 * NONE) × (x .one ≡ min (64 * NONE) (leafCell plan q (token 0 1) + 64 * (len - d)))
 
 -- what rule r comes to where only its part j has an onset, of which y are cells 0 and 1; the plan has what the other parts and the rule
 -- add

@@ -12,7 +12,7 @@ use Rattle.sheet.specs.Sheet.{division, Sheet}
 use Rattle.sheet.specs.Good.{GoodRules, GoodOnsets}
 use Rattle.sheet.specs.Held.{units}
 use Rattle.derivations.specs.Derivation.{Item}
-use Rattle.trees.specs.ValidTrees.{ruleAt}
+use Rattle.trees.specs.ValidTrees.{ruleAt, token}
 use Rattle.trees.specs.Instance.{onsetsIn}
 use Rattle.trees.specs.LeastTotal.{NONE, cellOf}
 use Rattle.expansions.specs.Tables.{lastUnit}
@@ -173,16 +173,17 @@ module _ {s : Sheet} {plan us rows : List ℕ} {bar : Bar} {q l : ℕ} {left : U
         leaf-at : (n : ℕ) → n < 4 → leafCell plan q n ≡ packedLeaf s q n
         leaf-at n h = prepared .leaves q n (stands-head stands) h
 
-        late-cell : min (64 * NONE) (leafCell plan q 0 + 64 * (len - d))
-            ≡ min (64 * NONE) (packedLeaf s q 0 + 64 * (lengthAt s l - (unitAt s (firstAt s (left .0)) - left .0)))
-        late-cell = rw (leaf-at 0 (omega arith), one-len, far) refl
+        late-cell : min (64 * NONE) (leafCell plan q (token 0 1) + 64 * (len - d))
+            ≡ min (64 * NONE) (packedLeaf s q (token 0 1) + 64 * (lengthAt s l - (unitAt s (firstAt s (left .0)) - left .0)))
+        late-cell = rw (leaf-at (token 0 1) (omega arith), one-len, far) refl
 
         both : (x .zero ≡ packedTo s g 0 0 0) × (x .one ≡ packedTo s g 0 0 1)
         both = elim (decLt (2 * d) len) [
           | yes h ↦
               let told = is .early h in
               let leaf = leaf-one-early s g (e .one) onsets (stands-near stands) (omega (arith, far, one-len)) in
-              (omega (arith, told .0, leaf .0, none-yet 0, leaf-at 1 (omega arith), far), omega (arith, told .1, leaf .1, none-yet 1))
+              let cell = leaf-at (token 1 1) (omega arith) in
+              (omega (arith, told .0, leaf .0, none-yet 0, cell, far), omega (arith, told .1, leaf .1, none-yet 1))
           | no h ↦
               let told = is .late (omega arith) in
               let leaf = leaf-one-late s g (e .one) onsets (stands-near stands) (omega (arith, far, one-len)) in (

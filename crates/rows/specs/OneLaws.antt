@@ -11,7 +11,8 @@ use Rattle.sheet.specs.Good.{GoodRules}
 use Rattle.derivations.specs.Derivation.{Item}
 use Rattle.derivations.specs.Minima.{lowest, only, only-same}
 use Rattle.derivations.specs.Table.{Cells, forward, onward}
-use Rattle.trees.specs.ValidTrees.{row}
+use Rattle.trees.specs.ValidTrees.{onsetsBefore, row, token}
+use Rattle.trees.specs.Kinds.{kind-before}
 use Rattle.trees.specs.Instance.{onsetsIn}
 use Rattle.trees.specs.LeastTotal.{NONE, carries, cellOf}
 use Rattle.trees.specs.Onsets.{onsets-add}
@@ -51,14 +52,14 @@ unfolding forward
 forward-append C cap cell [] hs f x = refl
 forward-append C cap cell (g ∷ gs) hs f x = forward-append C cap cell gs hs (onward C cap f (cell g)) x
 
--- the sum of the least leaves of nothing, and the same with another kind at the first
+-- the sum of the least leaves of nothing, each with an onset before it, and the same with n placed at the first
 abbrev pub leafSum : Sheet → List ℕ → ℕ
 leafSum s [] = 0
-leafSum s (q ∷ qs) = leastLeaf s q 0 + leafSum s qs
+leafSum s (q ∷ qs) = leastLeaf s q (token 0 1) + leafSum s qs
 
 abbrev pub leafSumFrom : Sheet → (n : ℕ) → List ℕ → ℕ
 leafSumFrom s n [] = 0
-leafSumFrom s n (q ∷ qs) = leastLeaf s q n + leafSum s qs
+leafSumFrom s n (q ∷ qs) = leastLeaf s q (token n 1) + leafSum s qs
 
 module _ (s : Sheet) (good : GoodRules (s .grammar)) where
   abbrev past : Item → (ℕ → ℕ) → ℕ → ℕ
@@ -73,9 +74,9 @@ module _ (s : Sheet) (good : GoodRules (s .grammar)) where
 
   -- over an item without an onset
   over-empty : (g : Item) (f : ℕ → ℕ) (a b : ℕ) → onsetsIn s (g .left) (g .len) ≡ 0 → Two f a b
-      → Two (past g f) (min NONE (min (a + leastLeaf s (g .nonterminal) 0) (b + leastLeaf s (g .nonterminal) 1))) NONE
+      → Two (past g f) (min NONE (min (a + leastLeaf s (g .nonterminal) (token 0 1)) (b + leastLeaf s (g .nonterminal) (token 1 1)))) NONE
   over-empty g f a b e t = record {
-    zeroth = low-two (λ c. f c + cellOf s g c 0) (a + leastLeaf s q 0) (b + leastLeaf s q 1)
+    zeroth = low-two (λ c. f c + cellOf s g c 0) (a + leastLeaf s q (token 0 1)) (b + leastLeaf s q (token 1 1))
         (omega (arith, t .zeroth, leaf-cell 0 (omega arith))) (omega (arith, t .first, leaf-cell 1 (omega arith)))
         (omega (arith, t .second)) (omega (arith, t .third));
     first = past-none g f 1 (omega arith) (omega arith);
@@ -86,8 +87,15 @@ module _ (s : Sheet) (good : GoodRules (s .grammar)) where
       q : ℕ
       q = g .nonterminal
 
-      leaf-cell : (c : ℕ) → c < 4 → cellOf s g c 0 ≡ leastLeaf s q c
-      leaf-cell c hc = omega (arith, cell-empty s good g c 0 hc (omega arith) e, least-leaf-most s q c, only-same NONE 0)
+      leaf-cell : (c : ℕ) → c < 4 → cellOf s g c 0 ≡ leastLeaf s q (token c 1)
+      leaf-cell c hc =
+          omega (
+            arith,
+            cell-empty s good g c 0 hc (omega arith) e,
+            ap (leastLeaf s q) (kind-before c (onsetsBefore s (g .left))),
+            least-leaf-most s q (token c 1),
+            only-same NONE 0,
+          )
 
   -- over one with a single onset, with nothing carried
   over-one : (g : Item) (f : ℕ → ℕ) (a : ℕ) → onsetsIn s (g .left) (g .len) ≡ 1 → Two f a NONE
@@ -116,9 +124,9 @@ module _ (s : Sheet) (good : GoodRules (s .grammar)) where
       let whole : onsetsIn s l (p + length qs * p) ≡ 0 = ap (onsetsIn s l) (omega arith) ∙ e in
       let here : onsetsIn s l p ≡ 0 = omega (arith, onsets-add s l p (length qs * p)) in
       let rest : onsetsIn s (l + p) (length qs * p) ≡ 0 = omega (arith, onsets-add s l p (length qs * p)) in
-      let one : Two (past g f) (min NONE (a + leastLeaf s q 0)) NONE =
+      let one : Two (past g f) (min NONE (a + leastLeaf s q (token 0 1))) NONE =
       two-eq (omega arith) refl (over-empty g f a NONE here t) in
-      two-eq (omega arith) refl (over-row (l + p) p qs (past g f) (min NONE (a + leastLeaf s q 0)) (omega arith) rest one)
+      two-eq (omega arith) refl (over-row (l + p) p qs (past g f) (min NONE (a + leastLeaf s q (token 0 1))) (omega arith) rest one)
 
   -- behind an item that leaves a and b, over a row without an onset
   over-behind : (l p : ℕ) (qs : List ℕ) (f : ℕ → ℕ) (a b : ℕ) → 0 < length qs → onsetsIn s l (length qs * p) ≡ 0 → Two f a b
@@ -127,7 +135,7 @@ module _ (s : Sheet) (good : GoodRules (s .grammar)) where
   over-behind l p [] f a b some-part e t = absurd (not-suc-le-zero some-part)
   over-behind l p (q ∷ qs) f a b some-part e t =
       let g : Item = record { nonterminal = q; left = l; len = p } in
-      let low = min (a + leastLeaf s q 0) (b + leastLeaf s q 1) in
+      let low = min (a + leastLeaf s q (token 0 1)) (b + leastLeaf s q (token 1 1)) in
       let whole : onsetsIn s l (p + length qs * p) ≡ 0 = ap (onsetsIn s l) (omega arith) ∙ e in
       let here : onsetsIn s l p ≡ 0 = omega (arith, onsets-add s l p (length qs * p)) in
       let rest : onsetsIn s (l + p) (length qs * p) ≡ 0 = omega (arith, onsets-add s l p (length qs * p)) in

@@ -12,7 +12,7 @@ use lib.Dec.{eqb}
 use lib.ListN.{length, drop, getD}
 use Rattle.sheet.specs.Sheet.{Onset, Sheet}
 use Rattle.sheet.specs.Good.{GoodOnsets}
-use Rattle.trees.specs.ValidTrees.{whose, isEarly, inside, early, late, distanceTo}
+use Rattle.trees.specs.ValidTrees.{whose, isEarly, inside, early, late, token, distanceTo}
 use Rattle.trees.specs.Instance.{onsetsIn, earlyCount, lateCount, ownDistance}
 use Rattle.trees.specs.Onsets.{onsets-add}
 use Rattle.plan.specs.Plan.{leastLeaf}
@@ -169,17 +169,19 @@ eqb-same a b c d h k = elim (ℕ-discrete a b) [
 ]
 
 module _ (s : Sheet) where
-  leaf-sum-is : (qs : List ℕ) → sumTo (λ i. leastLeaf s (getD qs i 0) 0) (length qs) ≡ leafSum s qs
+  leaf-sum-is : (qs : List ℕ) → sumTo (λ i. leastLeaf s (getD qs i 0) (token 0 1)) (length qs) ≡ leafSum s qs
   unfolding sumTo
   leaf-sum-is [] = refl
-  leaf-sum-is (q ∷ qs) = sum-first (λ i. leastLeaf s (getD (q ∷ qs) i 0) 0) (length qs) ∙ ap (leastLeaf s q 0 +_) (leaf-sum-is qs)
+  leaf-sum-is (q ∷ qs) =
+      sum-first (λ i. leastLeaf s (getD (q ∷ qs) i 0) (token 0 1)) (length qs) ∙ ap (leastLeaf s q (token 0 1) +_) (leaf-sum-is qs)
 
   beside-behind : (k n : ℕ) (ys : List ℕ) → sumTo (λ i. besideAt s (k ∷ ys) 0 n (suc i)) (length ys) ≡ leafSumFrom s n ys
   unfolding sumTo
   beside-behind k n [] = refl
   beside-behind k n (y ∷ ys) =
       sum-first (λ i. besideAt s (k ∷ y ∷ ys) 0 n (suc i)) (length ys)
-      ∙ ap (leastLeaf s y n +_) (sum-same (λ i. besideAt s (k ∷ y ∷ ys) 0 n (suc (suc i))) (λ i. leastLeaf s (getD ys i 0) 0) (length ys)
+      ∙ ap (leastLeaf s y (token n 1) +_)
+      (sum-same (λ i. besideAt s (k ∷ y ∷ ys) 0 n (suc (suc i))) (λ i. leastLeaf s (getD ys i 0) (token 0 1)) (length ys)
       (λ i. rw (ne-eqb (suc (suc i)) 0 (λ e. omega arith), ne-eqb (suc (suc i)) 1 (λ e. omega arith)))
       ∙ leaf-sum-is ys)
 
@@ -199,7 +201,7 @@ module _ (s : Sheet) where
         beside-sum-is xs k ys n,
       )
     where
-      first : besideAt s (x ∷ (xs ++ (k ∷ ys))) (suc (length xs)) n 0 ≡ leastLeaf s x 0
+      first : besideAt s (x ∷ (xs ++ (k ∷ ys))) (suc (length xs)) n 0 ≡ leastLeaf s x (token 0 1)
       first = rw (ne-eqb 0 (suc (length xs)) (λ e. omega arith), ne-eqb 0 (suc (length xs) + 1) (λ e. omega arith))
 
       further : (i : ℕ) → besideAt s (x ∷ (xs ++ (k ∷ ys))) (suc (length xs)) n (suc i) ≡ besideAt s (xs ++ (k ∷ ys)) (length xs) n i

@@ -14,7 +14,8 @@ use Rattle.sheet.specs.Good.{GoodRules, GoodOnsets}
 use Rattle.derivations.specs.Derivation.{Item}
 use Rattle.derivations.specs.Minima.{lowest, lowest-cap, only}
 use Rattle.derivations.specs.Table.{forward}
-use Rattle.trees.specs.ValidTrees.{row, weightAt}
+use Rattle.trees.specs.ValidTrees.{onsetsBefore, row, token, weightAt}
+use Rattle.trees.specs.Kinds.{kind-before}
 use Rattle.trees.specs.Instance.{onsetsIn, earlyCount, lateCount, ownDistance}
 use Rattle.trees.specs.LeastTotal.{NONE, carries, cellOf}
 use Rattle.plan.specs.Plan.{ruleCount, lengthAt, Divides}
@@ -202,23 +203,25 @@ module _ (s : Sheet) (g : Item) (one : onsetsIn s (g .left) (g .len) ≡ 1) wher
     along = unitAt s (firstAt s (g .left)) - g .left
 
     pub leaf-one-early : 2 * along < g .len
-        → (packedLeafTotal s g 0 0 ≡ min (64 * NONE) (packedLeaf s (g .nonterminal) 1 + 64 * along)) × (packedLeafTotal s g 0 1 ≡ 64 * NONE)
+        → (packedLeafTotal s g 0 0 ≡ min (64 * NONE) (packedLeaf s (g .nonterminal) (token 1 1) + 64 * along))
+        × (packedLeafTotal s g 0 1 ≡ 64 * NONE)
     leaf-one-early h = go (one-early s good (g .left) (g .len) near one h)
       where
         go : (earlyCount s (g .left) (g .len) ≡ 1) × (lateCount s (g .left) (g .len) ≡ 0) × (ownDistance s (g .left) (g .len) ≡ along)
-            → (packedLeafTotal s g 0 0 ≡ min (64 * NONE) (packedLeaf s (g .nonterminal) 1 + 64 * along))
+            → (packedLeafTotal s g 0 0 ≡ min (64 * NONE) (packedLeaf s (g .nonterminal) (token 1 1) + 64 * along))
             × (packedLeafTotal s g 0 1 ≡ 64 * NONE)
         go (a, b, c) =
             (packed-leaf-at s g 0 (rw (a, c) refl) 0 (sym b), packed-leaf-none s g 0 1 (λ e. omega arith))
 
     pub leaf-one-late : g .len ≤ 2 * along
         → (packedLeafTotal s g 0 0 ≡ 64 * NONE)
-        × (packedLeafTotal s g 0 1 ≡ min (64 * NONE) (packedLeaf s (g .nonterminal) 0 + 64 * (g .len - along)))
+        × (packedLeafTotal s g 0 1 ≡ min (64 * NONE) (packedLeaf s (g .nonterminal) (token 0 1) + 64 * (g .len - along)))
     leaf-one-late h = go (one-late s good (g .left) (g .len) near one h)
       where
         go : (earlyCount s (g .left) (g .len) ≡ 0) × (lateCount s (g .left) (g .len) ≡ 1)
             × (ownDistance s (g .left) (g .len) ≡ g .len - along)
             → (packedLeafTotal s g 0 0 ≡ 64 * NONE)
-            × (packedLeafTotal s g 0 1 ≡ min (64 * NONE) (packedLeaf s (g .nonterminal) 0 + 64 * (g .len - along)))
+            × (packedLeafTotal s g 0 1 ≡ min (64 * NONE) (packedLeaf s (g .nonterminal) (token 0 1) + 64 * (g .len - along)))
         go (a, b, c) =
-            (packed-leaf-none s g 0 0 (λ e. omega arith), packed-leaf-at s g 0 (rw (a, c) refl) 1 (sym b))
+            let kind = kind-before (0 + earlyCount s (g .left) (g .len)) (onsetsBefore s (g .left)) in
+            (packed-leaf-none s g 0 0 (λ e. omega arith), packed-leaf-at s g 0 (rw (kind, a, c) refl) 1 (sym b))

@@ -8,7 +8,7 @@ use lib.ListN.{length, drop, getD}
 use Rattle.slices.specs.Every.{Every}
 use Rattle.sheet.specs.Sheet.{Onset, Sheet, barUnits, inBar}
 use Rattle.sheet.specs.Good.{GoodOnsets}
-use Rattle.trees.specs.ValidTrees.{inside}
+use Rattle.trees.specs.ValidTrees.{inside, onsetsBefore}
 use Rattle.trees.specs.LeafBounds.{in-bar-most}
 use Rattle.trees.specs.Instance.{onsetsIn}
 use Rattle.trees.specs.Onsets.{inside-bounds}
@@ -35,7 +35,7 @@ module _ (s : Sheet) (good : GoodOnsets (s .playing)) where
 
   -- and every onset in a place before that one is before the unit
   pub unit-before : (u i : ℕ) → u ≤ lastUnit → i < firstAt s u → unitAt s i < u
-  unfolding onsetsIn
+  unfolding onsetsBefore
   unit-before u i h k =
       let os = s .playing .onsets in
       let whole : os ≡ inside s 0 u ++ drop (firstAt s (0 + u)) os

@@ -7,13 +7,13 @@ use Rattle.sheet.specs.Sheet.{Sheet}
 use Rattle.sheet.specs.Good.{GoodRules}
 use Rattle.derivations.specs.Derivation.{Item}
 use Rattle.derivations.specs.Minima.{lowest, only, FirstPlace}
-use Rattle.trees.specs.ValidTrees.{ruleAt}
+use Rattle.trees.specs.ValidTrees.{onsetsBefore, ruleAt, token}
 use Rattle.trees.specs.Instance.{onsetsIn}
 use Rattle.trees.specs.LeastTotal.{NONE, cellOf}
 use Rattle.plan.specs.Plan.{ruleCount}
 use Rattle.plan.specs.Packed.{packed, packed-cap, packed-total, packed-first, packedLeaf}
 use Rattle.rows.specs.VectorLaws.{lowest-capped, lowest-both, lowest-more, lowest-none}
-use Rattle.rows.specs.CellLaws.{totalBy, divisionTotal, token-small, cell-rules, behindLeaf, kindOf, costAsLeaf, split-by}
+use Rattle.rows.specs.CellLaws.{totalBy, divisionTotal, cell-rules, behindLeaf, kindOf, costAsLeaf, split-by}
 use Rattle.rows.specs.CellLaws.{division-empty, none-early, none-late, no-distance}
 
 -- ---- a packed minimum
@@ -82,10 +82,10 @@ module _ (s : Sheet) (good : GoodRules (s .grammar)) where
 
     -- of an item with no onset inside: a leaf of what is carried in, and nothing is carried on
     pub packed-cell-empty : onsetsIn s (g .left) (g .len) ≡ 0
-        → packedCell s g c m ≡ min (64 * NONE) (packedLeaf s (g .nonterminal) c + 64 * only NONE 0 m)
+        → packedCell s g c m ≡ min (64 * NONE) (packedLeaf s (g .nonterminal) (token c (onsetsBefore s (g .left))) + 64 * only NONE 0 m)
     unfolding packedLeafTotal
     packed-cell-empty e =
         packed-cell-split
         ∙ ap (min (packedLeafTotal s g c m)) (lowest-none (64 * NONE) (λ r. 64 * divisionTotal s g c m r + r) (ruleCount s)
         (λ r. omega (arith, division-empty s g c m r e)))
-        ∙ rw (none-early s g e, none-late s g e, no-distance s g e, add-zero c, token-small c hc) (omega arith)
+        ∙ rw (none-early s g e, none-late s g e, no-distance s g e, add-zero c) (omega arith)

@@ -17,7 +17,8 @@ use Rattle.derivations.specs.Derivation.{Item, Expansion}
 use Rattle.derivations.specs.Minima.{lowest, lowest-cap, only}
 use Rattle.derivations.specs.Table.{Cells, onward, forward}
 use Rattle.derivations.specs.Cells.{EveryPart, depth-rec}
-use Rattle.trees.specs.ValidTrees.{row, ruleAt, token}
+use Rattle.trees.specs.ValidTrees.{onsetsBefore, row, ruleAt, token}
+use Rattle.trees.specs.Kinds.{kind-before}
 use Rattle.trees.specs.Instance.{earlyCount, lateCount, ownDistance, atDivision, instanceOf}
 use Rattle.trees.specs.LeastTotal.{NONE, carries, cellOf}
 use Rattle.trees.specs.Expansions.{DivisionStep, step-of, division-expands}
@@ -45,16 +46,16 @@ saved-under s c m h =
     largest-under (λ q. largest (savedAt s q c) 4) (s .grammar .nonterminals) m (λ q _. largest-under (savedAt s q c) 4 m (h q))
 
 pub saved-most : (s : Sheet) (c : ℕ) → savedBy s c ≤ NONE
-saved-most s c = saved-under s c NONE (λ q e _. omega (arith, least-leaf-most s q e))
+saved-most s c = saved-under s c NONE (λ q e _. omega (arith, least-leaf-most s q (token e 1)))
 
-token-many : (n : ℕ) → 3 ≤ n → token n ≡ 3
+token-many : (n : ℕ) → 3 ≤ n → token n 1 ≡ 3
 token-many zero h = let none : ⊥ = omega arith in absurd none
 token-many (suc zero) h = let none : ⊥ = omega arith in absurd none
 token-many (suc (suc zero)) h = let none : ⊥ = omega arith in absurd none
 token-many (suc (suc (suc n))) h = refl
 
 -- the kind of a sum is that of the sum with a kind
-token-again : (c e : ℕ) → token (c + token e) ≡ token (c + e)
+token-again : (c e : ℕ) → token (c + token e 1) 1 ≡ token (c + e) 1
 token-again c zero = refl
 token-again c (suc zero) = refl
 token-again c (suc (suc zero)) = refl
@@ -81,11 +82,17 @@ module _ (s : Sheet) (good : GoodRules (s .grammar)) where
   saved-most-at q c e hq he =
       le-trans (largest-le (savedAt s q c) 4 e he) (largest-le (λ p. largest (savedAt s p c) 4) (s .grammar .nonterminals) q hq)
 
-  -- a leaf with c onsets carried in is no cheaper than with none by more than what c saves
-  pub leaf-saved : (q c e : ℕ) → leastLeaf s q (token e) ≤ leastLeaf s q (token (c + e)) + savedBy s c
+  -- a leaf with an onset before it and c onsets carried in is no cheaper than with none by more than what c saves
+  leaf-saved : (q c e : ℕ) → leastLeaf s q (token e 1) ≤ leastLeaf s q (token (c + e) 1) + savedBy s c
   leaf-saved q c e = elim (decLt q (s .grammar .nonterminals)) [
-    | no k ↦ omega (arith, no-leaf q (token (c + e)) (omega arith), least-leaf-most s q (token e))
-    | yes h ↦ omega (arith, saved-most-at q c (token e) h (token-below e), ap (leastLeaf s q) (token-again c e))
+    | no k ↦ omega (arith, no-leaf q (token (c + e) 1) (omega arith), least-leaf-most s q (token e 1))
+    | yes h ↦
+        omega (
+          arith,
+          saved-most-at q c (token e 1) h (token-below e 1),
+          ap (leastLeaf s q) (rw (zero-add (token e 1), zero-add e) at (token-again 0 e)),
+          ap (leastLeaf s q) (token-again c e),
+        )
   ]
 
 -- ---- minima and folds of functions that differ by k at most
@@ -132,9 +139,10 @@ module _ (s : Sheet) (good : GoodRules (s .grammar)) (c : ℕ) (few : c < 4) whe
   unfolding leafTotal
   leaf-total-saved g m =
       let early = earlyCount s (g .left) (g .len) in
-      leaf-within (leastLeaf s (g .nonterminal) (token (0 + early))) (leastLeaf s (g .nonterminal) (token (c + early)))
+      let before = onsetsBefore s (g .left) in
+      leaf-within (leastLeaf s (g .nonterminal) (token (0 + early) before)) (leastLeaf s (g .nonterminal) (token (c + early) before))
       (ownDistance s (g .left) (g .len)) (only NONE (lateCount s (g .left) (g .len)) m) (savedBy s c)
-      (rw (zero-add early) (leaf-saved s good (g .nonterminal) c early))
+      (rw (kind-before (0 + early) before, kind-before (c + early) before, zero-add early) (leaf-saved s good (g .nonterminal) c early))
 
   -- the parts of a division: the carry goes into the first
   parts-saved : (gs : List Item) → 0 < length gs → Every Saved gs → (m : ℕ) → m < 4

@@ -10,7 +10,7 @@ use Rattle.sheet.specs.Sheet.{Sheet}
 use Rattle.sheet.specs.Good.{GoodRules}
 use Rattle.derivations.specs.Derivation.{Item}
 use Rattle.derivations.specs.Minima.{lowest, only}
-use Rattle.trees.specs.ValidTrees.{weightAt}
+use Rattle.trees.specs.ValidTrees.{onsetsBefore, token, weightAt}
 use Rattle.trees.specs.Instance.{onsetsIn}
 use Rattle.trees.specs.LeastTotal.{NONE, cellOf}
 use Rattle.plan.specs.Plan.{ruleCount, leastLeaf, Divides, NoDivision}
@@ -60,24 +60,25 @@ module _ {s : Sheet} {rows : List ℕ} {g : Item} {v : List ℕ} {m : ℕ} {o : 
 
 -- a part without an onset: the least leaf of each kind, and nothing is carried on
 pub taken-empty : {s : Sheet} {rows : List ℕ} (g : Item) (v leaves : List ℕ) (x : ℕ) → GoodRules (s .grammar)
-    → onsetsIn s (g .left) (g .len) ≡ 0 → Sound s rows → leaves ≡ vec (leastLeaf s (g .nonterminal))
+    → onsetsIn s (g .left) (g .len) ≡ 0 → Sound s rows
+    → leaves ≡ vec (λ c. leastLeaf s (g .nonterminal) (token c (onsetsBefore s (g .left))))
     → x ≡ lowest NONE (λ m. getD leaves m 0 + getD v m 0) 4 → Taken s rows g v 4 (x ∷ NONE ∷ NONE ∷ NONE ∷ [])
 unfolding only
 taken-empty {s} {rows} g v leaves x good none sound e k =
     record { is = four zeroth (other 1 refl (omega arith)) (other 2 refl (omega arith)) (other 3 refl (omega arith)); sound = sound }
   where
-    q : ℕ
-    q = g .nonterminal
+    leaf : ℕ → ℕ
+    leaf c = leastLeaf s (g .nonterminal) (token c (onsetsBefore s (g .left)))
 
-    cell : (c m : ℕ) → c < 4 → m < 4 → cellOf s g c m ≡ min NONE (leastLeaf s q c + only NONE 0 m)
+    cell : (c m : ℕ) → c < 4 → m < 4 → cellOf s g c m ≡ min NONE (leaf c + only NONE 0 m)
     cell c m hc hm = cell-empty s good g c m hc hm none
 
     zeroth : x ≡ lowest NONE (λ c. getD v c 0 + cellOf s g c 0) 4
     zeroth = k ∙ lowest-same NONE _ (λ c. getD v c 0 + cellOf s g c 0) 4 (λ c h. omega (
       arith,
       cell c 0 h (omega arith),
-      least-leaf-most s q c,
-      ap (λ u. getD u c 0) e ∙ vec-at (leastLeaf s q) c h,
+      least-leaf-most s (g .nonterminal) (token c (onsetsBefore s (g .left))),
+      ap (λ u. getD u c 0) e ∙ vec-at leaf c h,
     ))
 
     other : (m : ℕ) → only NONE 0 m ≡ NONE → m < 4 → NONE ≡ lowest NONE (λ c. getD v c 0 + cellOf s g c m) 4

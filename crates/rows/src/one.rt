@@ -18,6 +18,7 @@ use crate::slots::place_of;
 use crate::slots::store;
 use crate::vector::NO_CELL;
 use crate::vector::least;
+use expansions::token_of;
 use plan::child;
 use plan::first_division;
 use plan::last_division;
@@ -58,21 +59,23 @@ pub fn alone<'a>(
     false
 }
 
-// A leaf of nonterminal q whose only onset is d behind its left bound.
+// A leaf of nonterminal q, with an onset before it, whose only onset is d behind its left bound.
 pub fn leaf_one(plan: &[u64; 3055], q: usize, len: Units, d: Units) -> Pair
     requires { ⌜ (q < 16) × (d .0 ≤ len .0) × (len .0 ≤ lastUnit) × ((s : Sheet) × Prepared s (now plan)) ⌝ }
     ensures { λ x. ⌜ LeafOne (now (plan .entry)) q (len .0) (d .0) x ⌝ }
 {
     let n = len.0;
     if 2 * d.0 < n {
-        let w = leaf_cell(plan, q, 1);
+        let kind = token_of(1, 1);
+        let w = leaf_cell(plan, q, kind as usize);
         let x = least(NO_CELL, w + 64 * (d.0 as u64));
         return Pair {
             zero: x,
             one: NO_CELL,
         };
     }
-    let w = leaf_cell(plan, q, 0);
+    let kind = token_of(0, 1);
+    let w = leaf_cell(plan, q, kind as usize);
     let x = least(NO_CELL, w + 64 * ((n - d.0) as u64));
     Pair {
         zero: NO_CELL,

@@ -2,15 +2,16 @@
 ghost use mathlib.Core.Path.{_≡_};
 ghost use mathlib.Core.Bool.{true};
 ghost use mathlib.Core.List.{List};
-ghost use Prim.Native.Nat.{ℕ, _+_, _<_, _≤_};
+ghost use Prim.Native.Nat.{ℕ, _+_, _/_, _<_, _≤_};
 ghost use lib.ListN.{getD};
 ghost use Rattle.sheet.specs.Sheet.{Sheet};
 ghost use Rattle.expansions.specs.Items.{itemOf};
-ghost use Rattle.plan.specs.Plan.{Prepared};
+ghost use Rattle.plan.specs.Plan.{Prepared, leafCell};
 ghost use Rattle.rows.specs.Vectors.{vec, Low};
 ghost use Rattle.rows.specs.PackedLaws.{packedLeafTotal};
 ghost use Rattle.rows.specs.Slots.{itemAt};
 ghost use Rattle.rows.specs.Rows.{Entry, Row, SolveEntry, PartsEntry, Parted, PartEntry, LiftEntry, ReachedTo, Taken, LeafEntry};
+ghost use Rattle.trees.specs.ValidTrees.{token};
 ghost use Rattle.trees.specs.LeastTotal.{NONE};
 ghost use Rattle.rows.specs.IdleLaws.{Idle};
 use crate::one::alone;
@@ -60,7 +61,7 @@ pub fn leaf_row<'a>(
 {
     let placed = place(units, over, from);
     let late = placed.late;
-    let kind = token_of(c + placed.early);
+    let kind = token_of(c + placed.early, from);
     let w = leaf_cell(plan, q, kind as usize);
     let x = least(NO_CELL, w + 64 * placed.distance);
     let mut o = [NO_CELL; 4];
@@ -119,7 +120,8 @@ pub fn cells<'a>(
 {
     let len = length(plan, l);
     if left.0 + len.0 <= units[from] {
-        return [leaf_cell(plan, q, c), NO_CELL, NO_CELL, NO_CELL];
+        let kind = token_of(c, from);
+        return [leaf_cell(plan, q, kind as usize), NO_CELL, NO_CELL, NO_CELL];
     }
     let at = place_of(plan, bar, q, l, from, c);
     if held(&rows[..], at, bar.number) {
@@ -235,6 +237,15 @@ pub fn parts<'a>(
     v
 }
 
+// The least cost of a leaf rule of nonterminal q for c onsets placed, where `before` lie before the leaf, or the cap.
+fn least_placed(plan: &[u64; 3055], q: usize, c: usize, before: usize) -> u64
+    requires { ⌜ q < 16 ⌝ }
+    ensures { λ x. ⌜ x ≡ leafCell (now (plan .entry)) q (token c before) / 64 ⌝ }
+{
+    let kind = token_of(c, before);
+    least_leaf(plan, q, kind as usize)
+}
+
 // The vector v, taken over one part; `to` is the place of the first onset behind it. The totals to the carry states move up one by one, so
 // that none is looked up by its index.
 fn part<'a>(
@@ -257,10 +268,10 @@ fn part<'a>(
 {
     if from >= to {
         let leaves = [
-            least_leaf(plan, q, 0),
-            least_leaf(plan, q, 1),
-            least_leaf(plan, q, 2),
-            least_leaf(plan, q, 3),
+            least_placed(plan, q, 0, from),
+            least_placed(plan, q, 1, from),
+            least_placed(plan, q, 2, from),
+            least_placed(plan, q, 3, from),
         ];
         return [dot(leaves, v), NONE, NONE, NONE];
     }

@@ -16,7 +16,7 @@ use Rattle.sheet.specs.Good.{GoodOnsets}
 use Rattle.sheet.specs.Held.{pitchOf}
 use Rattle.trees.specs.ValidTrees.{inside, early, late}
 use Rattle.trees.specs.Instance.{earlyCount, lateCount}
-use Rattle.trees.specs.Onsets.{early-late, onsets-most}
+use Rattle.trees.specs.Onsets.{early-late, onsets-most, onsets-before}
 use Rattle.trees.specs.Order.{early-then-late}
 use Rattle.trees.specs.LeafBounds.{early-most}
 use Rattle.expansions.specs.declared.Interval.{Interval}
@@ -125,7 +125,7 @@ module _ {s : Sheet} {us ps : List ℕ} {over : Interval} {n : ℕ} {p : Place} 
     next-first = omega (arith, h .stands .first, e .early, e .late, first-behind-is s good left len within)
 
     pub in-table : p .from + x .early + x .late ≤ 512
-    in-table = omega (arith, next-first, onsets-most s 0 (left + len), good .most)
+    in-table = omega (arith, next-first, onsets-before s (left + len), onsets-most s 0 (left + len), good .most)
 
     pub placed-in-table : p .from - p .carried + (p .carried + x .early) ≤ 512
     placed-in-table = omega (arith, in-table, h .stands .before)
@@ -137,7 +137,8 @@ module _ {s : Sheet} {us ps : List ℕ} {over : Interval} {n : ℕ} {p : Place} 
         let k = p .carried + x .early in
         let i = p .from - p .carried in
         let os = s .playing .onsets in
-        let all : i + k ≤ length os = omega (arith, next-first, onsets-most s 0 (left + len), h .stands .before) in
+        let all : i + k ≤ length os =
+        omega (arith, next-first, onsets-before s (left + len), onsets-most s 0 (left + len), h .stands .before) in
         let first : p .carried ≤ firstAt s left = omega (arith, h .stands .before, h .stands .first) in
         let row : take k (drop i os) ≡ carriedInto s p ++ early s left len =
         rw (e .early, h .stands .first) (placed-row s good left len within (p .carried) first) in

@@ -14,7 +14,7 @@ use lib.ListN.{length}
 use Rattle.slices.specs.Test.{and-both}
 use Rattle.sheet.specs.Sheet.{Rule, division, leaf, Sheet}
 use Rattle.derivations.specs.Derivation.{Item, Expansion}
-use Rattle.trees.specs.ValidTrees.{inside, ruleAt, mayDivide, token}
+use Rattle.trees.specs.ValidTrees.{inside, onsetsBefore, ruleAt, mayDivide, token}
 use Rattle.trees.specs.Instance.{onsetsIn, earlyCount, lateCount, atLeaf, atDivision, expandBy, instanceOf}
 
 -- what a division that is allowed tells: "k divides the length and at least one onset lies inside"
@@ -34,7 +34,7 @@ pub record LeafStep (s : Sheet) (g : Item) (c r : ℕ) (m : Expansion) : Type 0 
   pub n : ℕ
   pub rule : ruleAt s r ≡ some (leaf (g .nonterminal) weight n)
   pub few-late : lateCount s (g .left) (g .len) ≤ 3
-  pub kind-fits : n ≡ token (c + earlyCount s (g .left) (g .len))
+  pub kind-fits : n ≡ token (c + earlyCount s (g .left) (g .len)) (onsetsBefore s (g .left))
   pub is : m ≡ atLeaf s g
 
 -- a division at the item g
@@ -65,7 +65,7 @@ module _ (s : Sheet) (g : Item) (c r : ℕ) (m : Expansion) where
   step-by (leaf h w n) e d =
       let (t₁, d₁) = cond-some (eqb h (g .nonterminal)) _ m d in
       let (t₂, d₂) = cond-some (leb (lateCount s (g .left) (g .len)) 3) _ m d₁ in
-      let (t₃, d₃) = cond-some (eqb n (token (c + earlyCount s (g .left) (g .len)))) _ m d₂ in
+      let (t₃, d₃) = cond-some (eqb n (token (c + earlyCount s (g .left) (g .len)) (onsetsBefore s (g .left)))) _ m d₂ in
       inl (record {
         weight = w;
         n = n;

@@ -14,7 +14,7 @@ use Rattle.trees.specs.Placing.{ownDistances, ownDistances-append}
 -- at most three are late at each leaf, and the kinds fit, when `carried` is carried into the first
 pub record Fits (s : Sheet) (carried : List Onset) (leaves : List Leaf) : Type 0 where
   pub few-late : Every (FewLate s) leaves
-  pub kinds-fit : Every KindFits (placedFrom s carried leaves)
+  pub kinds-fit : Every (KindFits s) (placedFrom s carried leaves)
 
 -- the price of leaves and of their trees' writing, each onset counted at the leaf that it lies in
 abbrev pub priceFrom : Sheet → (carried : List Onset) → List Leaf → (bytes : List ℕ) → Price

@@ -9,7 +9,7 @@ use lib.Dec.{eqb, leb}
 use lib.ListN.{length}
 use Rattle.sheet.specs.Sheet.{Rule, division, leaf, Sheet}
 use Rattle.derivations.specs.Derivation.{Item, Expansion, Instance, derive}
-use Rattle.trees.specs.ValidTrees.{inside, early, late, row, bars, ruleAt, mayDivide, token, weightAt, distanceTo}
+use Rattle.trees.specs.ValidTrees.{inside, early, late, onsetsBefore, row, bars, ruleAt, mayDivide, token, weightAt, distanceTo}
 
 -- A late onset is placed at the next leaf's left bound, which is this leaf's right bound. So its distance belongs to the leaf that it lies
 -- in, and of the onsets carried in only their number matters.
@@ -42,11 +42,11 @@ atDivision g c ks = record { parts = row (g .left) (g .len / length ks) ks; carr
 -- a rule at an item that c onsets are carried into: its head is the item's nonterminal, a leaf's n fits and at most three are late, a
 -- division is allowed
 unfoldable pub expandBy : Sheet → Item → ℕ → Rule → Option Expansion
-unfolding atLeaf atDivision earlyCount lateCount ownDistance mayDivide
+unfolding atLeaf atDivision earlyCount lateCount ownDistance onsetsBefore mayDivide
 expandBy s g c (leaf h w n) =
     cond (eqb h (g .nonterminal))
     (cond (leb (lateCount s (g .left) (g .len)) 3)
-    (cond (eqb n (token (c + earlyCount s (g .left) (g .len)))) (some (atLeaf s g)) none)
+    (cond (eqb n (token (c + earlyCount s (g .left) (g .len)) (onsetsBefore s (g .left)))) (some (atLeaf s g)) none)
     none)
     none
 expandBy s g c (division h w ks) =

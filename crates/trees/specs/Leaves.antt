@@ -97,8 +97,8 @@ module _ (s : Sheet) where
     leaves-of =
         sym (leaves-all (bars s) bs (v .leaves) (rw (append-nil, v .writing) at (forest-leaves (v .parsed) [])))
 
-    -- "the leaf rule must have" the token kind of the placed count
-    pub entry-kinds : Every KindFits (entriesOf s bs)
+    -- "the leaf rule must have" the token kind of the placed count and of what lies before
+    pub entry-kinds : Every (KindFits s) (entriesOf s bs)
     entry-kinds = rw leaves-of at (v .kinds-fit)
 
     -- each onset of the sheet is placed once, in sheet order

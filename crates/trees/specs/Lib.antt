@@ -1,4 +1,5 @@
 pub mod ValidTrees
+pub mod Kinds
 pub mod Instance
 pub mod LeastTotal
 pub mod Cases

@@ -12,7 +12,7 @@ use lib.ListN.{length}
 use Rattle.slices.specs.Every.{Every, every-weaken}
 use Rattle.slices.specs.Test.{and-both}
 use Rattle.sheet.specs.Sheet.{Onset, Sheet}
-use Rattle.trees.specs.ValidTrees.{whose, contains, isEarly, inside, early, late, mayDivide, apart, distanceTo}
+use Rattle.trees.specs.ValidTrees.{whose, contains, isEarly, inside, early, late, onsetsBefore, mayDivide, apart, distanceTo}
 use Rattle.trees.specs.Instance.{onsetsIn, earlyCount, lateCount, ownDistance}
 use Rattle.trees.specs.Expansions.{may-divide}
 use Rattle.trees.specs.Order.{Parts, whose-both, within, intervals, halves}
@@ -90,6 +90,11 @@ module _ (s : Sheet) where
   pub onsets-most : (l n : ℕ) → onsetsIn s l n ≤ length (s .playing .onsets)
   unfolding onsetsIn inside
   onsets-most l n = whose-fewer (contains l n) (s .playing .onsets)
+
+  -- those before a bound are inside the interval up to it
+  pub onsets-before : (u : ℕ) → onsetsBefore s u ≡ onsetsIn s 0 u
+  unfolding onsetsBefore onsetsIn
+  onsets-before u = refl
 
   -- an interval that may be divided has a length, since an onset lies inside
   pub divided-long : (k l n : ℕ) → mayDivide s k l n ≡ true → 0 < n

@@ -8,7 +8,7 @@ use native.Mathlib.Nat.{zero-add}
 use lib.ListN.{length, length-append}
 use Rattle.sheet.specs.Sheet.{Onset, Sheet}
 use Rattle.derivations.specs.Derivation.{Item, Expansion, Price, derive, priceOf, _⊞_, unspent, price-eq, derive-rec}
-use Rattle.trees.specs.ValidTrees.{Forest, node, cons, nil, written, writtenAll, early, late, row, token, Leaf}
+use Rattle.trees.specs.ValidTrees.{Forest, node, cons, nil, written, writtenAll, early, late, onsetsBefore, row, token, Leaf}
 use Rattle.trees.specs.ValidTrees.{byLeaf, byDivision, ParsedAll, emptyForest, nextTree, placedFrom, carriedOut, ruleWeight}
 use Rattle.trees.specs.Instance.{atLeaf, atDivision, instanceOf}
 use Rattle.trees.specs.Expansions.{LeafStep, DivisionStep, Step, step-of}
@@ -85,7 +85,7 @@ module _ (s : Sheet) where
         here : Leaf
         here = record { left = g .left; len = g .len; n = l .n }
 
-        kind : l .n ≡ token (length (cs ++ early s (g .left) (g .len)))
+        kind : l .n ≡ token (length (cs ++ early s (g .left) (g .len))) (onsetsBefore s (g .left))
         kind = rw (length-append, e) (l .kind-fits)
 
         go : Reading s (late s (g .left) (g .len)) bs gs q → ReadBy (atLeaf s g) cs

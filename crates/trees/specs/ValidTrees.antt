@@ -54,6 +54,11 @@ module _ (s : Sheet) (left len : ℕ) where
   unfoldable pub late : List Onset
   late = whose (λ u. not (isEarly left len u)) inside
 
+-- how many onsets of the piece lie before a bound
+unfoldable pub onsetsBefore : Sheet → (bound : ℕ) → ℕ
+unfolding inside
+onsetsBefore s bound = length (inside s 0 bound)
+
 -- "numbered from 0 as rules" (document 01, "The sheet")
 abbrev pub ruleAt : Sheet → ℕ → Option Rule
 ruleAt s r = getElem? (s .grammar .rules) r
@@ -106,12 +111,13 @@ graceNote = 2
 abbrev pub graceNotes : ℕ
 graceNotes = 3
 
--- "With m placed, the leaf rule must have n = m for m up to 2, and n = 3 for m of 3 or more"
-abbrev pub token : ℕ → ℕ
-token zero = continuation
-token (suc zero) = note
-token (suc (suc zero)) = graceNote
-token (suc (suc (suc m))) = graceNotes
+-- the kind of a leaf, of which so many onsets are placed and so many lie before its left bound: "With m placed, the leaf rule must have
+-- n = m for m up to 2, and n = 3 for m of 3 or more", whatever lies before
+abbrev pub token : (placed before : ℕ) → ℕ
+token zero b = continuation
+token (suc zero) b = note
+token (suc (suc zero)) b = graceNote
+token (suc (suc (suc m))) b = graceNotes
 
 -- a leaf with the onsets that are "placed at the left bound", in sheet order (000, Section 3.2: `k.pre` and the early events)
 pub record Entry : Type 0 where
@@ -137,9 +143,9 @@ entries s ls = placedFrom s [] ls
 abbrev pub FewLate : Sheet → Leaf → Type 0
 FewLate s l = length (late s (l .left) (l .len)) ≤ 3
 
--- "the leaf rule must have" the token kind of the placed count
-abbrev pub KindFits : Entry → Type 0
-KindFits e = e .leaf .n ≡ token (length (e .placed))
+-- "the leaf rule must have" the token kind of the placed count and of what lies before
+abbrev pub KindFits : Sheet → Entry → Type 0
+KindFits s e = e .leaf .n ≡ token (length (e .placed)) (onsetsBefore s (e .leaf .left))
 
 -- "A list of bytes, of any length, is a valid tree for a sheet exactly when it is such a writing, complete and with nothing after it, of
 -- trees that meet every point above. Its node count is the number of its bytes."
@@ -149,7 +155,7 @@ pub record ValidTree (s : Sheet) (bytes : List ℕ) : Type 0 where
   pub parsed : ParsedAll s trees (bars s) leaves
   pub writing : writtenAll trees ≡ bytes
   pub few-late : Every (FewLate s) leaves
-  pub kinds-fit : Every KindFits (entries s leaves)
+  pub kinds-fit : Every (KindFits s) (entries s leaves)
   -- "nor out of the last"
   pub none-carried-out : carriedOut s [] leaves ≡ []
 

@@ -4,6 +4,7 @@ use Prim.Native.Nat.{_+_}
 use native.Mathlib.Omega.{arith}
 use Rattle.trees.specs.ValidTrees.{token}
 use Rattle.trees.specs.Onsets.{onsets-most, early-late}
+use Rattle.expansions.specs.Items.{firstAt}
 use borrow.Author.Needs.{needs}
 use Rattle.expansions.proofs.leaf_at.Statement.{statement}
 use Rattle.expansions.proofs.leaf_at.Tie as tie
@@ -43,17 +44,23 @@ returns-2 c =
     let place = c .before .before .before .place in
     let token-of = c .before .token-of in
     let if2 = c .if2 in
-    λ s h few kind. absurd (if2 .taken (kind ∙ ap (λ x. token (start .args .carried + x)) (sym (place .ensures s
-    (h .here) .early)) ∙ sym (token-of .ensures)))
+    let carried = start .args .carried in
+    λ s h few kind.
+    let left = start .args .over .left .0 in
+    absurd (if2 .taken (kind ∙ ap (λ x. token (carried + x) (firstAt s left)) (sym (place .ensures s (h .here) .early))
+    ∙ ap (token (carried + place .result .early)) (sym (h .here .first)) ∙ sym (token-of .ensures)))
 
 returns-3 : tie.Need-returns-3
 returns-3 c =
+    let start = c .before .before .before .before in
     let place = c .before .before .before .place in
     let if1 = c .before .before .if1 in
     let token-of = c .before .token-of in
     let if2 = c .if2 in
+    let placed = start .args .carried + place .result .early in
     λ s h. let p = place .ensures s (h .here) in
-    (refl, record { counts = p; kind = if2 .left ∙ token-of .ensures; few = omega (arith, if1 .left) })
+    let kind = if2 .left ∙ token-of .ensures ∙ ap (token placed) (h .here .first) in
+    (refl, record { counts = p; kind = kind; few = omega (arith, if1 .left) })
 
 pub leaf-at-spec : {M : Type 1} → statement M
 leaf-at-spec =

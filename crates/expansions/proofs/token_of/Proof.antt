@@ -7,26 +7,26 @@ use borrow.Author.Needs.{needs}
 use Rattle.expansions.proofs.token_of.Statement.{statement}
 use Rattle.expansions.proofs.token_of.Tie as tie
 
-few : (m : ℕ) → m < 3 → m ≡ token m
-few zero h = refl
-few (suc zero) h = refl
-few (suc (suc zero)) h = refl
-few (suc (suc (suc m))) h = let f : ⊥ = omega arith in absurd f
+few : (m b : ℕ) → m < 3 → m ≡ token m b
+few zero b h = refl
+few (suc zero) b h = refl
+few (suc (suc zero)) b h = refl
+few (suc (suc (suc m))) b h = let f : ⊥ = omega arith in absurd f
 
-many : (m : ℕ) → 3 ≤ m → 3 ≡ token m
-many zero h = let f : ⊥ = omega arith in absurd f
-many (suc zero) h = let f : ⊥ = omega arith in absurd f
-many (suc (suc zero)) h = let f : ⊥ = omega arith in absurd f
-many (suc (suc (suc m))) h = refl
+many : (m b : ℕ) → 3 ≤ m → 3 ≡ token m b
+many zero b h = let f : ⊥ = omega arith in absurd f
+many (suc zero) b h = let f : ⊥ = omega arith in absurd f
+many (suc (suc zero)) b h = let f : ⊥ = omega arith in absurd f
+many (suc (suc (suc m))) b h = refl
 
 cast-result : tie.Need-cast-result
 cast-result c = search needs
 
 returns : tie.Need-returns
-returns c = few (c .before .args .placed) (omega arith)
+returns c = few (c .before .args .placed) _ (omega arith)
 
 returns-2 : tie.Need-returns-2
-returns-2 c = many (c .before .args .placed) (omega arith)
+returns-2 c = many (c .before .args .placed) _ (omega arith)
 
 pub token-of-spec : {M : Type 1} → statement M
 token-of-spec = tie.close (tie.spec cast-result returns returns-2)

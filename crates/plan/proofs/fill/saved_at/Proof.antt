@@ -24,42 +24,54 @@ abbrev μ-loop : tie.MeasureT-loop
 loop-holds : tie.Need-loop-holds Inv-loop μ-loop
 loop-holds c = (search needs, λ s g t. largest-none (savedAt s _ _))
 
-add-token-of : tie.Need-add-token-of Inv-loop μ-loop
-add-token-of c = search needs
-
 token-of-requires : tie.Need-token-of-requires Inv-loop μ-loop
 token-of-requires c κs = search needs
 
-cast-kind : tie.Need-cast-kind Inv-loop μ-loop
-cast-kind c = search needs
+cast-none : tie.Need-cast-none Inv-loop μ-loop
+cast-none c = search needs
+
+add-token-of : tie.Need-add-token-of Inv-loop μ-loop
+add-token-of c = search needs
+
+token-of-requires-2 : tie.Need-token-of-requires-2 Inv-loop μ-loop
+token-of-requires-2 c κs = search needs
+
+cast-some : tie.Need-cast-some Inv-loop μ-loop
+cast-some c = search needs
 
 mul-excess : tie.Need-mul-excess Inv-loop μ-loop
 mul-excess c = search needs
 
 add-excess : tie.Need-add-excess Inv-loop μ-loop
-add-excess c = search needs
+add-excess c =
+    let start = c .before .before .before .before in
+    omega (arith, start .pre .0, c .before .token-of .ensures, token-below (c .before .before .before .loop .e) 1)
 
 mul-excess-2 : tie.Need-mul-excess-2 Inv-loop μ-loop
 mul-excess-2 c = search needs
 
 element-copy-out-excess : tie.Need-element-copy-out-excess Inv-loop μ-loop
-element-copy-out-excess c = search needs
+element-copy-out-excess c =
+    let start = c .before .before .before .before in
+    omega (arith, start .pre .0, c .before .token-of .ensures, token-below (c .before .before .before .loop .e) 1)
 
 mul-excess-3 : tie.Need-mul-excess-3 Inv-loop μ-loop
 mul-excess-3 c = search needs
 
 add-excess-2 : tie.Need-add-excess-2 Inv-loop μ-loop
 add-excess-2 c =
-    let start = c .before .before .before .before in
-    omega (arith, start .pre .0, c .before .token-of .ensures, token-below (start .args .c + c .before .before .before .loop .e))
+    let start = c .before .before .before .before .before in
+    let e = c .before .before .before .before .loop .e in
+    omega (arith, start .pre .0, c .before .token-of2 .ensures, token-below (start .args .c + e) 1)
 
 mul-excess-4 : tie.Need-mul-excess-4 Inv-loop μ-loop
 mul-excess-4 c = search needs
 
 element-copy-out-excess-2 : tie.Need-element-copy-out-excess-2 Inv-loop μ-loop
 element-copy-out-excess-2 c =
-    let start = c .before .before .before .before in
-    omega (arith, start .pre .0, c .before .token-of .ensures, token-below (start .args .c + c .before .before .before .loop .e))
+    let start = c .before .before .before .before .before in
+    let e = c .before .before .before .before .loop .e in
+    omega (arith, start .pre .0, c .before .token-of2 .ensures, token-below (start .args .c + e) 1)
 
 excess-requires : tie.Need-excess-requires Inv-loop μ-loop
 excess-requires c κs = search needs
@@ -76,15 +88,15 @@ loop-less c = search needs
 loop-again : tie.Need-loop-again Inv-loop μ-loop
 loop-again c =
     let back = c .before .before .before .before in
-    let loop = back .before .before .loop in
-    let start = back .before .before .before in
+    let loop = back .before .before .before .loop in
+    let start = back .before .before .before .before in
     let q = start .args .q in
     let c₀ = start .args .c in (
       search needs,
       λ s g t.
           let less : _ ≡ savedAt s q c₀ (loop .e) =
-          saved-cell s g (start .args .leaves .now) t q c₀ (loop .e) (back .token-of .result) (start .pre .0)
-          (back .before .loop-test .taken) (back .token-of .ensures) in
+          saved-cell s g (start .args .leaves .now) t q c₀ (loop .e) (back .before .token-of .result) (back .token-of2 .result)
+          (start .pre .0) (back .before .token-of .ensures) (back .token-of2 .ensures) in
           largest-next (savedAt s q c₀) (loop .e) (loop .most) _ _ (loop .inv .1 s g t) (c .before .excess .ensures ∙ less)
           (c .larger .ensures),
     )
@@ -101,9 +113,11 @@ saved-at-spec =
     Inv-loop
     μ-loop
     loop-holds
-    add-token-of
     token-of-requires
-    cast-kind
+    cast-none
+    add-token-of
+    token-of-requires-2
+    cast-some
     mul-excess
     add-excess
     mul-excess-2

@@ -40,8 +40,8 @@ pub +fresh+lift+part+parts+solve-spec : {M : Type 1} → statement M
     (lift-needs.relax-requires t) (lift-needs.same-length t) (lift-needs.returns-2 t) (lift-needs.fresh-requires t)
     (lift-needs.totals-requires-2 t) (lift-needs.relax-requires-2 t) (lift-needs.same-length-2 t) (lift-needs.returns-3 t))
     (λ t. part-lts.spec (part-needs.calls t) (part-at t) part.Post part-needs.Inv-loop part-needs.μ-loop
-    (part-needs.least-leaf-requires t) (part-needs.least-leaf-requires-2 t) (part-needs.least-leaf-requires-3 t)
-    (part-needs.least-leaf-requires-4 t) (part-needs.dot-requires t) (part-needs.returns t) (part-needs.array-read-zero t)
+    (part-needs.least-placed-requires t) (part-needs.least-placed-requires-2 t) (part-needs.least-placed-requires-3 t)
+    (part-needs.least-placed-requires-4 t) (part-needs.dot-requires t) (part-needs.returns t) (part-needs.array-read-zero t)
     (part-needs.reached-requires t) (part-needs.array-read-a t) (part-needs.array-read-b t) (part-needs.array-read-d t)
     (part-needs.array-read-e t) (part-needs.loop-holds t) (part-needs.lift-requires t) (part-needs.add-c t) (part-needs.loop-less t)
     (part-needs.loop-again t) (part-needs.same-length t) (part-needs.returns-2 t))

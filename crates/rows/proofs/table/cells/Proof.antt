@@ -22,18 +22,24 @@ mul-if1 c = omega (arith, entry-first (c .before .before .before .before .pre .1
 element-copy-out-if1 : tie.Need-element-copy-out-if1
 element-copy-out-if1 c = omega (arith, entry-first (c .before .before .before .before .pre .1) (c .before .before .length .ensures))
 
+token-of-requires : tie.Need-token-of-requires
+token-of-requires c κs = search needs
+
+cast-leaf-cell : tie.Need-cast-leaf-cell
+cast-leaf-cell c = search needs
+
 leaf-cell-requires : tie.Need-leaf-cell-requires
 leaf-cell-requires c κs =
-    let start = c .before .before .before .before .before .before in
-    let length = c .before .before .before .before .length in
-    entry-asked (start .pre .1) (length .ensures)
+    let start = c .before .before .before .before .before .before .before in
+    let length = c .before .before .before .before .before .length in
+    entry-asked (start .pre .1) (length .ensures) (c .token-of .ensures)
 
 returns : tie.Need-returns
 returns c =
-    let length = c .before .before .before .before .before .length in
-    let if1 = c .before .if1 in
+    let length = c .before .before .before .before .before .before .length in
+    let if1 = c .before .before .if1 in
     let leaf-cell = c .leaf-cell in
-    λ s e. entry-leaf e (length .ensures) (if1 .taken) (leaf-cell .ensures)
+    λ s e. entry-leaf e (length .ensures) (if1 .taken) (c .before .token-of .ensures) (leaf-cell .ensures)
 
 place-of-requires : tie.Need-place-of-requires
 place-of-requires c κs =
@@ -98,6 +104,8 @@ cells-spec =
     add-if1
     mul-if1
     element-copy-out-if1
+    token-of-requires
+    cast-leaf-cell
     leaf-cell-requires
     returns
     place-of-requires

@@ -14,7 +14,7 @@ use Rattle.rows.specs.CallLaws.{leaf-asked, dot-asked, part-empty, lift-
 use Rattle.rows.proofs.table.lift.Reads as lift
 use Rattle.rows.proofs.table.part.Reads as part
 use Rattle.rows.proofs.table.+fresh+lift+part+parts+solve.Lts-part as part-lts
-use Rattle.plan.proofs.least_leaf.Reads as least-leaf-reads
+use Rattle.rows.proofs.table.least_placed.Reads as least-placed-reads
 use Rattle.rows.proofs.vector.dot.Reads as dot-reads
 use Rattle.rows.proofs.table.reached.Reads as reached-reads
 use Rattle.rows.proofs.table.+fresh+lift+part+parts+solve.Proof.Measures.{lift-below, part-at}
@@ -32,8 +32,8 @@ module _ (t : ℕ) where
   -- the readings of the callees of `part`
   abbrev pub calls : part-lts.Claims
   calls = (
-    least-leaf-reads.Asked,
-    least-leaf-reads.Learnt,
+    least-placed-reads.Asked,
+    least-placed-reads.Learnt,
     dot-reads.Asked,
     dot-reads.Learnt,
     reached-reads.Asked,
@@ -42,41 +42,42 @@ module _ (t : ℕ) where
     lift.Post,
   )
 
-  pub least-leaf-requires : part-lts.Need-least-leaf-requires calls (part-at t) part.Post Inv-loop μ-loop
-  least-leaf-requires c κs = leaf-asked (c .before .before .pre .1 .1) (omega arith)
+  pub least-placed-requires : part-lts.Need-least-placed-requires calls (part-at t) part.Post Inv-loop μ-loop
+  least-placed-requires c κs = leaf-asked (c .before .before .pre .1 .1)
 
-  pub least-leaf-requires-2 : part-lts.Need-least-leaf-requires-2 calls (part-at t) part.Post Inv-loop μ-loop
-  least-leaf-requires-2 c κs = leaf-asked (c .before .before .before .pre .1 .1) (omega arith)
+  pub least-placed-requires-2 : part-lts.Need-least-placed-requires-2 calls (part-at t) part.Post Inv-loop μ-loop
+  least-placed-requires-2 c κs = leaf-asked (c .before .before .before .pre .1 .1)
 
-  pub least-leaf-requires-3 : part-lts.Need-least-leaf-requires-3 calls (part-at t) part.Post Inv-loop μ-loop
-  least-leaf-requires-3 c κs =
+  pub least-placed-requires-3 : part-lts.Need-least-placed-requires-3 calls (part-at t) part.Post Inv-loop μ-loop
+  least-placed-requires-3 c κs =
       let start = c .before .before .before .before in
-      leaf-asked (start .pre .1 .1) (omega arith)
+      leaf-asked (start .pre .1 .1)
 
-  pub least-leaf-requires-4 : part-lts.Need-least-leaf-requires-4 calls (part-at t) part.Post Inv-loop μ-loop
-  least-leaf-requires-4 c κs =
+  pub least-placed-requires-4 : part-lts.Need-least-placed-requires-4 calls (part-at t) part.Post Inv-loop μ-loop
+  least-placed-requires-4 c κs =
       let start = c .before .before .before .before .before in
-      leaf-asked (start .pre .1 .1) (omega arith)
+      leaf-asked (start .pre .1 .1)
 
   pub dot-requires : part-lts.Need-dot-requires calls (part-at t) part.Post Inv-loop μ-loop
   dot-requires c κs =
       let start = c .before .before .before .before .before .before in
-      let least-leaf = c .before .before .before .least-leaf in
-      let least-leaf2 = c .before .before .least-leaf2 in
-      let least-leaf3 = c .before .least-leaf3 in
-      let least-leaf4 = c .least-leaf4 in
-      dot-asked (start .pre .1 .1) (least-leaf .ensures) (least-leaf2 .ensures) (least-leaf3 .ensures) (least-leaf4 .ensures)
+      let least-placed = c .before .before .before .least-placed in
+      let least-placed2 = c .before .before .least-placed2 in
+      let least-placed3 = c .before .least-placed3 in
+      let least-placed4 = c .least-placed4 in
+      dot-asked (start .pre .1 .1) (least-placed .ensures) (least-placed2 .ensures) (least-placed3 .ensures) (least-placed4 .ensures)
 
   pub returns : part-lts.Need-returns calls (part-at t) part.Post Inv-loop μ-loop
   returns c =
       let if1 = c .before .before .before .before .before .if1 in
-      let least-leaf = c .before .before .before .before .least-leaf in
-      let least-leaf2 = c .before .before .before .least-leaf2 in
-      let least-leaf3 = c .before .before .least-leaf3 in
-      let least-leaf4 = c .before .least-leaf4 in
+      let least-placed = c .before .before .before .before .least-placed in
+      let least-placed2 = c .before .before .before .least-placed2 in
+      let least-placed3 = c .before .before .least-placed3 in
+      let least-placed4 = c .before .least-placed4 in
       let dot = c .dot in
       λ s h.
-      part-empty h (least-leaf .ensures) (least-leaf2 .ensures) (least-leaf3 .ensures) (least-leaf4 .ensures) (if1 .taken) (dot .ensures)
+      part-empty h (least-placed .ensures) (least-placed2 .ensures) (least-placed3 .ensures) (least-placed4 .ensures) (if1 .taken)
+      (dot .ensures)
 
   pub array-read-zero : part-lts.Need-array-read-zero calls (part-at t) part.Post Inv-loop μ-loop
   array-read-zero c = search needs
