@@ -2,10 +2,12 @@ pub mod Finding
 pub mod Figures
 pub mod Outcomes
 pub mod FindingLaws
+pub mod FindLaws
 pub mod Numbers
 pub mod Reporting
 pub mod Restoring
 pub mod ReportingLaws
+pub mod ReportLaws
 pub mod EveryReading
 pub mod Cases
 pub mod FindingCases
