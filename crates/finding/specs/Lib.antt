@@ -2,6 +2,7 @@ pub mod Finding
 pub mod Figures
 pub mod Outcomes
 pub mod FindingLaws
+pub mod FindLaws
 pub mod EveryReading
 pub mod Cases
 pub mod FindingCases

@@ -2,3 +2,4 @@ pub mod Reporting
 pub mod Restoring
 pub mod ReportingLaws
 pub mod ReportingCases
+pub mod ReportLaws

@@ -2,5 +2,6 @@ pub mod Score
 pub mod ScoreLaws
 pub mod LeafRules
 pub mod Writing
+pub mod WritingLaws
 pub mod Steps
 pub mod Cases

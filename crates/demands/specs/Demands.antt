@@ -1,0 +1,149 @@
+-- The three demands, clause by clause, as theorems about the entries: whatever meets an entry's contract has what the clause asks. A reader
+-- needs this page and the definitions of `readSheet` (sheet/specs/Reading), `ValidTree`, `KindFits`, `Priced`, `totalOf`
+-- (trees/specs/ValidTrees), `treeBytes`, `workCells` (sizes/specs/Sizes), `scoreText` (score/specs/Score). x′ is x after the call. Names:
+--   Refuses text k n, Accepts text s   `readSheet text` is a refusal with number k and line n, or the sheet s
+--   refusedAs k n                      the answer with number k, line n and zeros elsewhere, as `readingOf (refused k n)` is for reading
+--   pricedAs s nodes R D, writtenAs n  the answer with number 0, line 0 and these figures with the total `totalOf s R D`, or n bytes
+--   scoreOf s p                        the `scoreText` of the valid tree p: of its own leaves, R, D and total
+--   Short, Fitting s list room         list is a valid tree, and `room` bytes are too few, or enough, for its `scoreOf`
+--   FoundAs s tree tree′ r             r has the figures of a valid tree, none totals less, and its bytes lie over the front of tree
+--   cleared s work                     work with its first `workCells s` cells 0
+--   LineOnly k n ..                    the line of the refusal is printed; the tree slice and the score slice are kept
+--   Scored s ..                        a least tree lies over the front of the tree slice, its `scoreOf` over that of the score slice, and
+--                                      this is printed; or, where the score slice is short of it, LineOnly 13 0
+use Prim.Native.Nat.{ℕ, _≤_, _<_}
+use mathlib.Core.Path.{_≡_, ap, _∙_}
+use mathlib.Core.List.{List, _++_}
+use mathlib.Core.Logic.{_⊎_, _↔_}
+use lib.ListN.{length, drop}
+use Rattle.slices.specs.Every.{Every}
+use Rattle.sheet.specs.declared.table.Reading.{Reading}
+use Rattle.sheet.specs.Sheet.{Sheet}
+use Rattle.sheet.specs.Reading.{readSheet, refused}
+use Rattle.sheet.specs.Held.{readingOf}
+use Rattle.sizes.specs.Sizes.{treeBytes, workCells}
+use Rattle.trees.specs.ValidTrees.{ValidTree, Priced, totalOf, entries, KindFits}
+use Rattle.pricing.specs.declared.Priced as answer
+use Rattle.pricing.specs.Pricing.{priceText, pricedOf}
+use Rattle.pricing.specs.PriceLaws as price
+use Rattle.pricing.specs.PriceLaws.{Refuses, Accepts, refusedAs, pricedAs}
+use Rattle.score.specs.declared.Written.{Written}
+use Rattle.score.specs.Writing.{writeText, writtenOf, scoreAfter}
+use Rattle.score.specs.WritingLaws as write
+use Rattle.score.specs.WritingLaws.{scoreOf, writtenAs, Short, Fitting}
+use Rattle.finding.specs.declared.Shown.{Shown}
+use Rattle.finding.specs.Finding.{Finds, cleared}
+use Rattle.finding.specs.FindLaws as find
+use Rattle.finding.specs.Reporting.{Reports}
+use Rattle.finding.specs.ReportLaws as report
+use Rattle.finding.specs.ReportLaws.{LineOnly, Scored}
+
+-- the contracts of `read`, `price` and `write`; those of `find` and `report` are `Finds` and `Reports`
+abbrev pub Reads : (text : List ℕ) → Reading → Type 0
+Reads text r = r ≡ readingOf (readSheet text)
+
+abbrev pub Prices : (text list : List ℕ) → answer.Priced → Type 0
+Prices text list r = r ≡ pricedOf (priceText text list)
+
+abbrev pub Writes : (text list score score′ : List ℕ) → Written → Type 0
+Writes text list score score′ r =
+    (r ≡ writtenOf (writeText text list (length score))) × (score′ ≡ scoreAfter (writeText text list (length score)) score)
+
+-- ==== Demand 1. "Every text and every lent slice is taken, and it finishes": no entry has a `requires`, so the prover shows of each that
+-- it is safe and ends for all arguments.
+
+-- "A faulty sheet [..] is refused with the paper's number, no result besides, tree and score slices untouched"
+module _ (text : List ℕ) (k n : ℕ) (faulty : Refuses text k n) where
+  pub read-refused : (r : Reading) → Reads text r → (r ≡ readingOf (refused k n)) × (1 ≤ k) × (k ≤ 8)
+  read-refused r h = let g = find.refusal-number text k n faulty in (h ∙ ap readingOf faulty, g .0, g .1)
+
+  pub price-refused : (list : List ℕ) (r : answer.Priced) → Prices text list r → r ≡ refusedAs k n
+  price-refused list r h = price.text-refused text list h k n faulty
+
+  pub write-refused : (list score score′ : List ℕ) (r : Written) → Writes text list score score′ r
+      → (r ≡ write.refusedAs k n) × (score′ ≡ score)
+  write-refused list score score′ r h = write.text-refused text list score (h .0) (h .1) k n faulty
+
+  pub find-refused : (tree tree′ work work′ : List ℕ) (r : answer.Priced) → Finds text tree tree′ work work′ r
+      → (r ≡ refusedAs k n) × (tree′ ≡ tree) × (work′ ≡ work)
+  find-refused tree tree′ work work′ r h = find.text-refused text h k n faulty
+
+  pub report-refused : (tree tree′ work work′ score score′ line line′ : List ℕ) (r : Shown)
+      → Reports text tree tree′ work work′ score score′ line line′ r → LineOnly k n tree tree′ score score′ line′ r × (work′ ≡ work)
+  report-refused tree tree′ work work′ score score′ line line′ r h = report.text-refused text h k n faulty
+
+-- "a short slice or a list that is no tree is refused with the paper's number, no result besides, tree and score slices untouched. Apart
+-- from these and a sheet that has no tree, nothing is refused": of an accepted text, each answer under its condition
+module _ (text : List ℕ) (s : Sheet) (a : Accepts text s) where
+  pub read-answers : (r : Reading) → Reads text r → (r .number ≡ 0) × (r .line ≡ 0)
+  unfolding readingOf
+  read-answers r h = let e = h ∙ ap readingOf (a .1) in (ap (λ (x : Reading). x .number) e, ap (λ (x : Reading). x .line) e)
+
+  pub price-answers : (list : List ℕ) (r : answer.Priced) → Prices text list r
+      → ((ValidTree s list → ⊥) × (r ≡ refusedAs 12 0)) ⊎ (ValidTree s list × (r .number ≡ 0))
+  price-answers list r h = price.price-answers text list h s a
+
+  pub write-answers : (list score score′ : List ℕ) (r : Written) → Writes text list score score′ r
+      → ((ValidTree s list → ⊥) × (r ≡ write.refusedAs 12 0) × (score′ ≡ score))
+      ⊎ (Short s list (length score) × (r ≡ write.refusedAs 13 0) × (score′ ≡ score))
+      ⊎ (Fitting s list (length score) × (r .number ≡ 0))
+  write-answers list score score′ r h = write.write-answers text list score (h .0) (h .1) s a
+
+  pub find-answers : (tree tree′ work work′ : List ℕ) (r : answer.Priced) → Finds text tree tree′ work work′ r
+      → ((length work < workCells s) × (r ≡ refusedAs 9 0) × (tree′ ≡ tree) × (work′ ≡ work))
+      ⊎ ((workCells s ≤ length work) × (length tree < treeBytes s) × (r ≡ refusedAs 10 0) × (tree′ ≡ tree) × (work′ ≡ work))
+      ⊎ ((workCells s ≤ length work) × (treeBytes s ≤ length tree) × ((bs : List ℕ) → ValidTree s bs → ⊥)
+      × (r ≡ refusedAs 11 0) × (tree′ ≡ tree) × (work′ ≡ cleared s work))
+      ⊎ ((workCells s ≤ length work) × (treeBytes s ≤ length tree) × find.FoundAs s tree tree′ r × (work′ ≡ cleared s work))
+  find-answers tree tree′ work work′ r h = find.find-answers text h s a
+
+  pub report-answers : (tree tree′ work work′ score score′ line line′ : List ℕ) (r : Shown)
+      → Reports text tree tree′ work work′ score score′ line line′ r
+      → ((length work < workCells s) × LineOnly 9 0 tree tree′ score score′ line′ r × (work′ ≡ work))
+      ⊎ ((workCells s ≤ length work) × (length tree < treeBytes s) × LineOnly 10 0 tree tree′ score score′ line′ r × (work′ ≡ work))
+      ⊎ ((workCells s ≤ length work) × (treeBytes s ≤ length tree) × ((bs : List ℕ) → ValidTree s bs → ⊥)
+      × LineOnly 11 0 tree tree′ score score′ line′ r × (work′ ≡ cleared s work))
+      ⊎ ((workCells s ≤ length work) × (treeBytes s ≤ length tree) × Scored s tree tree′ score score′ line′ r × (work′ ≡ cleared s work))
+  report-answers tree tree′ work work′ score score′ line line′ r h = report.report-answers text h s a
+
+  -- ==== Demand 2. "Rule weight, distance, token kinds and score lines are those of the published definitions as document 01 fixes them"
+  pub price-sound : (list : List ℕ) (r : answer.Priced) → Prices text list r → r .number ≡ 0
+      → Priced s list (r .weight) (r .distance) × (r ≡ pricedAs s (length list) (r .weight) (r .distance))
+  price-sound list r h = price.zero-then-own text list h s a
+
+  pub write-sound : (list score score′ : List ℕ) (r : Written) → Writes text list score score′ r → r .number ≡ 0
+      → (R : ℕ) × (D : ℕ) × (p : Priced s list R D) × Every KindFits (entries s (p .valid .leaves))
+      × (r ≡ writtenAs (length (scoreOf s p))) × (score′ ≡ scoreOf s p ++ drop (length (scoreOf s p)) score)
+  write-sound list score score′ r h z =
+      let (R, D, p, e, f) = write.zero-then-own text list score (h .0) (h .1) s a z in (R, D, p, p .valid .kinds-fit, e, f)
+
+  -- "An offered list is priced exactly when it is a valid tree for that sheet"
+  pub price-exact : (list : List ℕ) (r : answer.Priced) → Prices text list r → (r .number ≡ 0) ↔ ValidTree s list
+  price-exact list r h = price.zero-exactly text list h s a
+
+  -- ==== Demand 3. "For any accepted sheet, whatever the slices hold:"
+  module _ (tree tree′ work work′ : List ℕ) (r : answer.Priced) (h : Finds text tree tree′ work work′ r) where
+    -- "a tree handed back is valid, its figures are its own,"
+    pub find-sound : r .number ≡ 0
+        → (bytes : List ℕ) × (R : ℕ) × (D : ℕ) × Priced s bytes R D × (r ≡ pricedAs s (length bytes) R D)
+        × (tree′ ≡ bytes ++ drop (length bytes) tree)
+    find-sound z = let (bytes, R, D, t, e, f) = find.zero-then-found text h s a z in (bytes, R, D, t .valid, e, f)
+
+    -- "every other valid tree totals no less."
+    pub find-least : r .number ≡ 0 → (bs : List ℕ) (R D : ℕ) → Priced s bs R D → r .total ≤ totalOf s R D
+    find-least = find.zero-then-least text h s a
+
+    -- "With slices of the required lengths a tree is handed back exactly when some list of bytes is one,"
+    pub find-complete : workCells s ≤ length work → treeBytes s ≤ length tree
+        → (r .number ≡ 0) ↔ ((bs : List ℕ) × ValidTree s bs × Every (λ (b : ℕ). b < 256) bs)
+    find-complete = find.zero-exactly text h s a
+
+    -- "and 11 comes exactly when no list of any length is."
+    pub find-none : workCells s ≤ length work → treeBytes s ≤ length tree → (r .number ≡ 11) ↔ ((bs : List ℕ) → ValidTree s bs → ⊥)
+    find-none = find.eleven-exactly text h s a
+
+-- "With a shorter slice, or a text that is no accepted sheet, neither answer"
+pub find-neither : (text tree tree′ work work′ : List ℕ) (r : answer.Priced) → Finds text tree tree′ work work′ r
+    → ((s : Sheet) × Accepts text s × ((length work < workCells s) ⊎ (length tree < treeBytes s))) ⊎ ((s : Sheet) → Accepts text s → ⊥)
+    → (r .number ≡ 0 → ⊥) × (r .number ≡ 11 → ⊥)
+find-neither text tree tree′ work work′ r h = find.neither text h
