@@ -1,6 +1,8 @@
 -- The three demands, clause by clause, as theorems about the entries: whatever meets an entry's contract has what the clause asks. A reader
 -- needs this page and the definitions of `readSheet` (sheet/specs/Reading), `ValidTree`, `KindFits`, `Priced`, `totalOf`
--- (trees/specs/ValidTrees), `treeBytes`, `workCells` (sizes/specs/Sizes), `scoreText` (score/specs/Score). x′ is x after the call. Names:
+-- (trees/specs/ValidTrees), `treeBytes`, `workCells` (sizes/specs/Sizes), `scoreText` (score/specs/Score). x′ is x after the call.
+-- Contracts: `Reads` (sheet/specs/Held), `Prices` (pricing/specs/Pricing), `Writes` (score/specs/Writing), `Finds` (finding/specs/Finding),
+-- `Reports` (reporting/specs/Reporting). Names:
 --   Refuses text k n, Accepts text s   `readSheet text` is a refusal with number k and line n, or the sheet s
 --   refusedAs k n                      the answer with number k, line n and zeros elsewhere, as `readingOf (refused k n)` is for reading
 --   pricedAs s nodes R D, writtenAs n  the answer with number 0, line 0 and these figures with the total `totalOf s R D`, or n bytes
@@ -19,35 +21,25 @@ use lib.ListN.{length, drop}
 use Rattle.slices.specs.Every.{Every}
 use Rattle.sheet.specs.declared.table.Reading.{Reading}
 use Rattle.sheet.specs.Sheet.{Sheet}
-use Rattle.sheet.specs.Reading.{readSheet, refused}
-use Rattle.sheet.specs.Held.{readingOf}
+use Rattle.sheet.specs.Outcome.{refused}
+use Rattle.sheet.specs.Held.{readingOf, Reads}
+use Rattle.sheet.specs.Accepted.{Refuses, Accepts}
 use Rattle.sizes.specs.Sizes.{treeBytes, workCells}
 use Rattle.trees.specs.ValidTrees.{ValidTree, Priced, totalOf, entries, KindFits}
 use Rattle.pricing.specs.declared.Priced as answer
-use Rattle.pricing.specs.Pricing.{priceText, pricedOf}
+use Rattle.pricing.specs.Pricing.{Prices}
 use Rattle.pricing.specs.PriceLaws as price
-use Rattle.pricing.specs.PriceLaws.{Refuses, Accepts, refusedAs, pricedAs}
+use Rattle.pricing.specs.PriceLaws.{refusedAs, pricedAs}
 use Rattle.score.specs.declared.Written.{Written}
-use Rattle.score.specs.Writing.{writeText, writtenOf, scoreAfter}
+use Rattle.score.specs.Writing.{Writes}
 use Rattle.score.specs.WritingLaws as write
 use Rattle.score.specs.WritingLaws.{scoreOf, writtenAs, Short, Fitting}
-use Rattle.finding.specs.declared.Shown.{Shown}
+use Rattle.reporting.specs.declared.Shown.{Shown}
 use Rattle.finding.specs.Finding.{Finds, cleared}
 use Rattle.finding.specs.FindLaws as find
-use Rattle.finding.specs.Reporting.{Reports}
-use Rattle.finding.specs.ReportLaws as report
-use Rattle.finding.specs.ReportLaws.{LineOnly, Scored}
-
--- the contracts of `read`, `price` and `write`; those of `find` and `report` are `Finds` and `Reports`
-abbrev pub Reads : (text : List ℕ) → Reading → Type 0
-Reads text r = r ≡ readingOf (readSheet text)
-
-abbrev pub Prices : (text list : List ℕ) → answer.Priced → Type 0
-Prices text list r = r ≡ pricedOf (priceText text list)
-
-abbrev pub Writes : (text list score score′ : List ℕ) → Written → Type 0
-Writes text list score score′ r =
-    (r ≡ writtenOf (writeText text list (length score))) × (score′ ≡ scoreAfter (writeText text list (length score)) score)
+use Rattle.reporting.specs.Reporting.{Reports}
+use Rattle.reporting.specs.ReportLaws as report
+use Rattle.reporting.specs.ReportLaws.{LineOnly, Scored}
 
 -- ==== Demand 1. "Every text and every lent slice is taken, and it finishes": no entry has a `requires`, so the prover shows of each that
 -- it is safe and ends for all arguments.
@@ -112,7 +104,7 @@ module _ (text : List ℕ) (s : Sheet) (a : Accepts text s) where
   price-sound list r h = price.zero-then-own text list h s a
 
   pub write-sound : (list score score′ : List ℕ) (r : Written) → Writes text list score score′ r → r .number ≡ 0
-      → (R : ℕ) × (D : ℕ) × (p : Priced s list R D) × Every KindFits (entries s (p .valid .leaves))
+      → (R : ℕ) × (D : ℕ) × (p : Priced s list R D) × Every (KindFits s) (entries s (p .valid .leaves))
       × (r ≡ writtenAs (length (scoreOf s p))) × (score′ ≡ scoreOf s p ++ drop (length (scoreOf s p)) score)
   write-sound list score score′ r h z =
       let (R, D, p, e, f) = write.zero-then-own text list score (h .0) (h .1) s a z in (R, D, p, p .valid .kinds-fit, e, f)

@@ -10,11 +10,11 @@ use lib.ListN.{length, drop}
 use Rattle.slices.specs.Every.{Every}
 use Rattle.slices.specs.Over.{over-drop}
 use Rattle.sheet.specs.Sheet.{Sheet}
-use Rattle.sheet.specs.Reading.{refused, accepted, readSheet}
-use Rattle.sheet.specs.Reading as reading
+use Rattle.sheet.specs.Outcome.{Outcome, refused, accepted}
 use Rattle.sheet.specs.Bounds.{refused-within}
+use Rattle.sheet.specs.Numbers.{refused-most}
 use Rattle.sheet.specs.Good.{Good}
-use Rattle.sheet.specs.GoodLaws.{good}
+use Rattle.sheet.specs.Accepted.{Refuses, Accepts, accepted-good, refuses-or-accepts}
 use Rattle.sizes.specs.Sizes.{treeBytes, workCells}
 use Rattle.trees.specs.ValidTrees as trees
 use Rattle.trees.specs.ValidTrees.{ValidTree, totalOf}
@@ -22,12 +22,11 @@ use Rattle.trees.specs.Found.{LeastTree}
 use Rattle.trees.specs.Theorems.{none-or-least}
 use Rattle.pricing.specs.declared.Priced.{Priced}
 use Rattle.pricing.specs.Pricing.{pricedOf}
-use Rattle.pricing.specs.PriceLaws.{Refuses, Accepts, refusedAs, pricedAs}
-use Rattle.finding.specs.Finding.{Outcome, refusal, noTree, found, findSheet, findText, cleared, Gives, Finds}
-use Rattle.finding.specs.Numbers.{refused-most}
-use Rattle.finding.specs.Outcomes.{work-short, tree-short, none-found, one-found, refused-found, sheet-found}
+use Rattle.pricing.specs.PriceLaws.{refusedAs, pricedAs}
+use Rattle.finding.specs.Finding.{Search, noTree, found, findSheet, findText, cleared, Gives, Finds}
+use Rattle.finding.specs.Outcomes.{work-short, tree-short, none-found, one-found}
 use Rattle.finding.specs.FindingLaws.{tree-fits, has-tree, has-none, some-then-zero, zero-then-some, none-then-eleven}
-use Rattle.finding.specs.FindingLaws.{eleven-then-none, short-neither, refused-neither}
+use Rattle.finding.specs.FindingLaws.{eleven-then-none, short-neither, refused-neither, refused-found, sheet-found}
 
 -- a refusal by reading has a number from 1 to 8
 pub refusal-number : (text : List ℕ) (k n : ℕ) → Refuses text k n → (1 ≤ k) × (k ≤ 8)
@@ -36,23 +35,23 @@ refusal-number text k n e = (refused-within text k n e .0, refused-most text k n
 -- ---- what finding comes to, by the lengths of the slices and by whether there is a tree
 
 module _ (text : List ℕ) (tree work : ℕ) (s : Sheet) (a : Accepts text s) where
-  abbrev ok : Good (a .0) s
-  ok = good text (a .0) s (a .1)
+  ok : Good s
+  ok = accepted-good text s a
 
-  of-sheet : (o : Outcome) → findSheet s tree work ≡ o → findText text tree work ≡ o
-  of-sheet o q = sheet-found text tree work (a .0) s (a .1) ∙ q
+  of-sheet : (o : Outcome Search) → findSheet s tree work ≡ o → findText text tree work ≡ o
+  of-sheet o q = sheet-found text tree work s a ∙ q
 
-  pub outcome-nine : work < workCells s → findText text tree work ≡ refusal 9 0
+  pub outcome-nine : work < workCells s → findText text tree work ≡ refused 9 0
   outcome-nine h = of-sheet _ (work-short s tree work h)
 
-  pub outcome-ten : workCells s ≤ work → tree < treeBytes s → findText text tree work ≡ refusal 10 0
+  pub outcome-ten : workCells s ≤ work → tree < treeBytes s → findText text tree work ≡ refused 10 0
   outcome-ten w h = of-sheet _ (tree-short s tree work w h)
 
-  pub outcome-eleven : workCells s ≤ work → treeBytes s ≤ tree → ((bs : List ℕ) → ValidTree s bs → ⊥) → findText text tree work ≡ noTree s
-  outcome-eleven w t h = of-sheet _ (none-found s tree work w t (has-none s (a .0) ok h))
+  pub outcome-eleven : workCells s ≤ work → treeBytes s ≤ tree → ((bs : List ℕ) → ValidTree s bs → ⊥) → findText text tree work ≡ accepted (noTree s)
+  outcome-eleven w t h = of-sheet _ (none-found s tree work w t (has-none s ok h))
 
-  pub outcome-found : workCells s ≤ work → treeBytes s ≤ tree → (bs : List ℕ) → ValidTree s bs → findText text tree work ≡ found s
-  outcome-found w t bs v = of-sheet _ (one-found s tree work w t (has-tree s (a .0) ok bs v))
+  pub outcome-found : workCells s ≤ work → treeBytes s ≤ tree → (bs : List ℕ) → ValidTree s bs → findText text tree work ≡ accepted (found s)
+  outcome-found w t bs v = of-sheet _ (one-found s tree work w t (has-tree s ok bs v))
 
   -- there is no other way
   pub by-slices : (work < workCells s)
@@ -63,7 +62,7 @@ module _ (text : List ℕ) (tree work : ℕ) (s : Sheet) (a : Accepts text s) wh
     | yes h ↦ inl h
     | no h ↦ elim (decLt tree (treeBytes s)) [
       | yes k ↦ inr (inl (omega arith, k))
-      | no k ↦ elim (none-or-least s (a .0) ok) [
+      | no k ↦ elim (none-or-least s ok) [
         | inl n ↦ inr (inr (inl (omega arith, omega arith, n)))
         | inr x ↦ inr (inr (inr (omega arith, omega arith, (x .0, x .3 .valid .valid))))
       ]
@@ -82,14 +81,14 @@ abbrev number : Priced → ℕ
 number r = r .number
 
 module _ (text : List ℕ) {tree tree′ work work′ : List ℕ} {r : Priced} (f : Finds text tree tree′ work work′ r) where
-  given : (o : Outcome) → findText text (length tree) (length work) ≡ o → Gives o tree tree′ work work′ r
-  given o q = subst (λ (o : Outcome). Gives o tree tree′ work work′ r) q f
+  given : (o : Outcome Search) → findText text (length tree) (length work) ≡ o → Gives o tree tree′ work work′ r
+  given o q = subst (λ (o : Outcome Search). Gives o tree tree′ work work′ r) q f
 
   -- a refusal gives its number, its line and zeros, and keeps both slices
-  given-refused : (k n : ℕ) → findText text (length tree) (length work) ≡ refusal k n
+  given-refused : (k n : ℕ) → findText text (length tree) (length work) ≡ refused k n
       → (r ≡ refusedAs k n) × (tree′ ≡ tree) × (work′ ≡ work)
   unfolding pricedOf
-  given-refused k n q = let g = given (refusal k n) q in (g .result .0 .zeros, g .result .0 .tree-kept, g .result .1)
+  given-refused k n q = let g = given (refused k n) q in (g .result .0 .zeros, g .result .0 .tree-kept, g .result .1)
 
   pub text-refused : (k n : ℕ) → Refuses text k n → (r ≡ refusedAs k n) × (tree′ ≡ tree) × (work′ ≡ work)
   text-refused k n e = given-refused k n (refused-found text _ _ k n e)
@@ -97,12 +96,11 @@ module _ (text : List ℕ) {tree tree′ work work′ : List ℕ} {r : Priced} (
   -- "With a shorter slice, or a text that is no accepted sheet, neither answer"
   pub neither : ((s : Sheet) × Accepts text s × ((length work < workCells s) ⊎ (length tree < treeBytes s)))
       ⊎ ((s : Sheet) → Accepts text s → ⊥) → (r .number ≡ 0 → ⊥) × (r .number ≡ 11 → ⊥)
-  neither (inl (s, a, short)) = short-neither text f (a .0) s (a .1) short
-  neither (inr no-sheet) = go (readSheet text) refl
-    where
-      go : (o : reading.Outcome) → readSheet text ≡ o → (r .number ≡ 0 → ⊥) × (r .number ≡ 11 → ⊥)
-      go (refused k n) e = refused-neither text f k n e
-      go (accepted d s) e = absurd (no-sheet s (d, e))
+  neither (inl (s, a, short)) = short-neither text f s a short
+  neither (inr no-sheet) = elim (refuses-or-accepts text) [
+    | inl (k, n, e) ↦ refused-neither text f k n e
+    | inr (s, a) ↦ absurd (no-sheet s a)
+  ]
 
   module _ (s : Sheet) (a : Accepts text s) where
     pub work-short-then-nine : length work < workCells s → (r ≡ refusedAs 9 0) × (tree′ ≡ tree) × (work′ ≡ work)
@@ -117,17 +115,17 @@ module _ (text : List ℕ) {tree tree′ work work′ : List ℕ} {r : Priced} (
         → (r ≡ refusedAs 11 0) × (tree′ ≡ tree) × (work′ ≡ cleared s work)
     unfolding pricedOf
     no-tree-then-eleven w t h =
-        let g = given (noTree s) (outcome-eleven text _ _ s a w t h) in (g .result .0 .zeros, g .result .0 .tree-kept, g .result .1)
+        let g = given (accepted (noTree s)) (outcome-eleven text _ _ s a w t h) in (g .result .0 .zeros, g .result .0 .tree-kept, g .result .1)
 
     -- and so they are after a tree: it lies over the front of the tree slice, and the answer has its figures
     pub tree-then-found : workCells s ≤ length work → treeBytes s ≤ length tree → (bs : List ℕ) → ValidTree s bs
         → FoundAs s tree tree′ r × (work′ ≡ cleared s work)
     unfolding pricedOf
     tree-then-found w t bs v =
-        let g = given (found s) (outcome-found text _ _ s a w t bs v) in
+        let g = given (accepted (found s)) (outcome-found text _ _ s a w t bs v) in
         let x = g .result .0 in
         let fits : length (x .bytes) ≤ length tree =
-        omega (arith, tree-fits s (a .0) (good text (a .0) s (a .1)) (x .bytes) (x .least .valid .valid)) in
+        omega (arith, tree-fits s (accepted-good text s a) (x .bytes) (x .least .valid .valid)) in
         ((x .bytes, x .weight, x .distance, x .least, x .figures, x .tree-written ∙ over-drop (x .bytes) tree fits), g .result .1)
 
     -- "Apart from these and a sheet that has no tree, nothing is refused": each answer under its condition
@@ -166,9 +164,9 @@ module _ (text : List ℕ) {tree tree′ work work′ : List ℕ} {r : Priced} (
     -- "With slices of the required lengths a tree is handed back exactly when some list of bytes is one"
     pub zero-exactly : workCells s ≤ length work → treeBytes s ≤ length tree
         → (r .number ≡ 0) ↔ ((bs : List ℕ) × ValidTree s bs × Every (λ (b : ℕ). b < 256) bs)
-    zero-exactly w t = (zero-then-some text f (a .0) s (a .1) w t, λ x. some-then-zero text f (a .0) s (a .1) w t (x .0) (x .1))
+    zero-exactly w t = (zero-then-some text f s a w t, λ x. some-then-zero text f s a w t (x .0) (x .1))
 
     -- "and 11 comes exactly when no list of any length is"
     pub eleven-exactly : workCells s ≤ length work → treeBytes s ≤ length tree
         → (r .number ≡ 11) ↔ ((bs : List ℕ) → ValidTree s bs → ⊥)
-    eleven-exactly w t = (eleven-then-none text f (a .0) s (a .1) w t, none-then-eleven text f (a .0) s (a .1) w t)
+    eleven-exactly w t = (eleven-then-none text f s a w t, none-then-eleven text f s a w t)

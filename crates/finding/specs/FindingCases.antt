@@ -26,7 +26,7 @@ use Rattle.sheet.specs.Sheet.{Sheet, TimedSheet}
 use Rattle.sheet.specs.Outcome.{Outcome, refused, accepted}
 use Rattle.sheet.specs.Reading.{readSheet}
 use Rattle.sheet.specs.Good.{Good}
-use Rattle.sheet.specs.GoodLaws.{good}
+use Rattle.sheet.specs.Accepted.{Accepts, accepted-good}
 use Rattle.sheet.specs.Cases.{S}
 use Rattle.sizes.specs.Sizes.{treeBytes, workCells}
 use Rattle.derivations.specs.Derivation.{Price}
@@ -142,18 +142,14 @@ is-found s bs n R D t all e {tree} {treeAfter} {work} {workAfter} {answer} g c =
           work-so = c;
         }
 
-module _ (text : List ℕ) (x : TimedSheet) (read : readSheet text ≡ accepted x) {tree treeAfter work workAfter : List ℕ}
-    {answer : Priced} (w : workCells (x .sheet) ≤ length work) (room : treeBytes (x .sheet) ≤ length tree)
-    (f : Finds text tree treeAfter work workAfter answer) where
-  abbrev s : Sheet
-  s = x .sheet
-
+module _ (text : List ℕ) (s : Sheet) (a : Accepts text s) {tree treeAfter work workAfter : List ℕ} {answer : Priced}
+    (w : workCells s ≤ length work) (room : treeBytes s ≤ length tree) (f : Finds text tree treeAfter work workAfter answer) where
   ok : Good s
-  ok = good text x read
+  ok = accepted-good text s a
 
   -- the result, by what finding comes to
   result-at : (o : Outcome Search) → findSheet s (length tree) (length work) ≡ o → Result o tree treeAfter work workAfter answer
-  result-at o e = subst (λ o. Gives o tree treeAfter work workAfter answer) (sheet-found text _ _ x read ∙ e) f .result
+  result-at o e = subst (λ o. Gives o tree treeAfter work workAfter answer) (sheet-found text _ _ s a ∙ e) f .result
 
   -- there is one least tree
   tree-answered : (bs : List ℕ) (n R D t : ℕ) → priceSheet s bs ≡ priced n R D t → everyList s (onlyTree s bs t) ≡ true
@@ -194,7 +190,7 @@ case-answered c e tree treeAfter work workAfter answer w t f = go (readSheet (c 
         let (b, y) = and-both (eqb (treeBytes (x .sheet)) (c .room)) _ v in
         let cells = eqb-true (workCells (x .sheet)) (c .cells) a in
         let bytes = eqb-true (treeBytes (x .sheet)) (c .room) b in
-        let g = sheet-answered (c .text) x r (omega (arith, cells)) (omega (arith, bytes)) f (c .gives) (c .bytes) y in
+        let g = sheet-answered (c .text) (x .sheet) (x .timing, r) (omega (arith, cells)) (omega (arith, bytes)) f (c .gives) (c .bytes) y in
         record {
           answer-is = g .answer-so;
           tree-is = g .tree-so;

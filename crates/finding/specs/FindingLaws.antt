@@ -13,13 +13,11 @@ use borrow.Author.Tests.{lt-ltb, ltb-true}
 use lib.ListN.{length, take, drop, replicate}
 use Rattle.slices.specs.Every.{Every, every-weaken}
 use Rattle.slices.specs.Over.{over, length-over, take-over, drop-over}
-use Rattle.sheet.specs.Sheet.{Sheet, TimedSheet, barUnits}
+use Rattle.sheet.specs.Sheet.{Sheet, barUnits}
 use Rattle.sheet.specs.Outcome.{Outcome, refused, accepted}
-use Rattle.sheet.specs.Reading.{readSheet}
-use Rattle.sheet.specs.Accepted.{on-refusal, on-sheet}
+use Rattle.sheet.specs.Accepted.{Refuses, Accepts, accepted-good, refuses-or-accepts, on-refusal, on-sheet}
 use Rattle.sheet.specs.Numbers.{refused-most}
 use Rattle.sheet.specs.Good.{Good}
-use Rattle.sheet.specs.GoodLaws.{good}
 use Rattle.sheet.specs.Bounds.{refused-within}
 use Rattle.sizes.specs.Sizes.{treeBytes, workCells}
 use Rattle.derivations.specs.Derivation.{Price, derive}
@@ -100,9 +98,9 @@ pub record TreeHandedBack (s : Sheet) (tree treeAfter work workAfter : List ℕ)
 
 -- and of a text
 pub record HandedBack (text tree treeAfter work workAfter : List ℕ) (answer : Priced) : Type 0 where
-  pub means : TimedSheet
-  pub read : readSheet text ≡ accepted means
-  pub back : TreeHandedBack (means .sheet) tree treeAfter work workAfter answer
+  pub sheet : Sheet
+  pub accepts : Accepts text sheet
+  pub back : TreeHandedBack sheet tree treeAfter work workAfter answer
 
 module _ (s : Sheet) (ok : Good s) {tree treeAfter work workAfter : List ℕ} {answer : Priced} where
   from-tree : findSheet s (length tree) (length work) ≡ accepted (found s) → treeBytes s ≤ length tree → FoundTree s tree treeAfter answer
@@ -159,44 +157,40 @@ module _ (s : Sheet) (ok : Good s) {tree treeAfter work workAfter : List ℕ} {a
 
 -- what finding comes to is what it comes to on the sheet that the text means, or the text's refusal
 module _ (text : List ℕ) (tree work : ℕ) where
-  pub refused-found : (k n : ℕ) → readSheet text ≡ refused k n → findText text tree work ≡ refused k n
+  pub refused-found : (k n : ℕ) → Refuses text k n → findText text tree work ≡ refused k n
   unfolding findText
   refused-found = on-refusal text (λ s. findSheet s tree work)
 
-  pub sheet-found : (x : TimedSheet) → readSheet text ≡ accepted x → findText text tree work ≡ findSheet (x .sheet) tree work
+  pub sheet-found : (s : Sheet) → Accepts text s → findText text tree work ≡ findSheet s tree work
   unfolding findText
   sheet-found = on-sheet text (λ s. findSheet s tree work)
 
 module _ (text : List ℕ) {tree treeAfter work workAfter : List ℕ} {answer : Priced} where
   module _ (f : Finds text tree treeAfter work workAfter answer) where
     -- of a text that is refused the number is reading's; it is 1 to 8
-    pub refused-number : (k n : ℕ) → readSheet text ≡ refused k n → (answer .number ≡ k) × (1 ≤ k) × (k ≤ 8)
+    pub refused-number : (k n : ℕ) → Refuses text k n → (answer .number ≡ k) × (1 ≤ k) × (k ≤ 8)
     refused-number k n e =
         (f .number ∙ ap numberOf (refused-found text _ _ k n e), refused-within text k n e .0, refused-most text k n e)
 
     -- number 0: a tree is handed back
     pub handed-back : answer .number ≡ 0 → HandedBack text tree treeAfter work workAfter answer
-    handed-back z = go (readSheet text) refl
-      where
-        go : (o : Outcome TimedSheet) → readSheet text ≡ o → HandedBack text tree treeAfter work workAfter answer
-        go (refused k n) e = let (q, one, most) = refused-number k n e in let f : ⊥ = omega arith in absurd f
-        go (accepted x) e =
-            let at-sheet = subst (λ o. Gives o tree treeAfter work workAfter answer) (sheet-found text _ _ x e) f in
-            record { means = x; read = e; back = tree-handed-back (x .sheet) (good text x e) at-sheet z }
+    handed-back z = elim (refuses-or-accepts text) [
+      | inl (k, n, e) ↦ let (q, one, most) = refused-number k n e in let f : ⊥ = omega arith in absurd f
+      | inr (s, a) ↦
+          let at-sheet = subst (λ o. Gives o tree treeAfter work workAfter answer) (sheet-found text _ _ s a) f in
+          record { sheet = s; accepts = a; back = tree-handed-back s (accepted-good text s a) at-sheet z }
+    ]
 
     -- a refused text: neither 0 nor 11
-    pub refused-neither : (k n : ℕ) → readSheet text ≡ refused k n → (answer .number ≡ 0 → ⊥) × (answer .number ≡ 11 → ⊥)
+    pub refused-neither : (k n : ℕ) → Refuses text k n → (answer .number ≡ 0 → ⊥) × (answer .number ≡ 11 → ⊥)
     refused-neither k n e = let (q, one, most) = refused-number k n e in (λ z. omega arith, λ z. omega arith)
 
-    module _ (x : TimedSheet) (read : readSheet text ≡ accepted x) where
-      abbrev s : Sheet
-      s = x .sheet
-
+    module _ (s : Sheet) (a : Accepts text s) where
       ok : Good s
-      ok = good text x read
+      ok = accepted-good text s a
 
       numbered : (o : Outcome Search) → findSheet s (length tree) (length work) ≡ o → answer .number ≡ numberOf o
-      numbered o e = f .number ∙ ap numberOf (sheet-found text _ _ x read ∙ e)
+      numbered o e = f .number ∙ ap numberOf (sheet-found text _ _ s a ∙ e)
 
       -- a slice that is shorter than required: neither
       pub short-neither : (length work < workCells s) ⊎ (length tree < treeBytes s) → (answer .number ≡ 0 → ⊥) × (answer .number ≡ 11 → ⊥)

@@ -23,11 +23,11 @@ unfolding priceText priceSheet readSheet whose distanceTo onto Option·elim
 S-prices-010303 = refl
 
 -- a function that meets the contract of `price`
-abbrev Prices : (List ℕ → List ℕ → Priced) → Type 0
-Prices f = (text list : List ℕ) → f text list ≡ pricedOf (priceText text list)
+abbrev Pricer : (List ℕ → List ℕ → Priced) → Type 0
+Pricer f = (text list : List ℕ) → f text list ≡ pricedOf (priceText text list)
 
 -- it does not say 12 to everything
-pub says-12-to-everything : (f : List ℕ → List ℕ → Priced) → Prices f → ((text list : List ℕ) → f text list .number ≡ 12) → ⊥
+pub says-12-to-everything : (f : List ℕ → List ℕ → Priced) → Pricer f → ((text list : List ℕ) → f text list .number ≡ 12) → ⊥
 unfolding pricedOf
 says-12-to-everything f h twelve =
     let z : _≡_ {A = ℕ} 12 0 =
@@ -35,7 +35,7 @@ says-12-to-everything f h twelve =
     omega arith
 
 -- and does not price `00` on S
-pub prices-00 : (f : List ℕ → List ℕ → Priced) → Prices f → f S (0 ∷ []) .number ≡ 0 → ⊥
+pub prices-00 : (f : List ℕ → List ℕ → Priced) → Pricer f → f S (0 ∷ []) .number ≡ 0 → ⊥
 unfolding pricedOf
 prices-00 f h zero =
     let z : _≡_ {A = ℕ} 0 12 = sym zero ∙ ap (λ (p : Priced). p .number) (h S (0 ∷ []) ∙ ap pricedOf S-refuses-00) in omega arith

@@ -7,21 +7,13 @@ use mathlib.Core.Logic.{_⊎_, inl, inr, _↔_}
 use native.Mathlib.Omega.{arith}
 use lib.ListN.{length}
 use Rattle.sheet.specs.Sheet.{Sheet}
-use Rattle.sheet.specs.Reading.{refused, accepted, readSheet}
-use Rattle.sheet.specs.Reading as reading
+use Rattle.sheet.specs.Accepted.{Refuses, Accepts, on-refusal, on-sheet}
 use Rattle.trees.specs.ValidTrees as trees
 use Rattle.trees.specs.ValidTrees.{ValidTree, totalOf}
 use Rattle.trees.specs.Found.{own-price}
 use Rattle.pricing.specs.declared.Priced.{Priced}
-use Rattle.pricing.specs.Pricing.{priceSheet, priceRead, priceText, pricedOf}
+use Rattle.pricing.specs.Pricing.{priceSheet, priceText, pricedOf}
 use Rattle.pricing.specs.PricingLaws.{tree-priced, tree-or-none, none-refused, refused-none}
-
--- a text that is refused with number k and line n, and a text that means a sheet, at whatever duration of a bar
-abbrev pub Refuses : (text : List ℕ) → (number line : ℕ) → Type 0
-Refuses text k n = readSheet text ≡ refused k n
-
-abbrev pub Accepts : (text : List ℕ) → Sheet → Type 0
-Accepts text s = (d : ℕ) × (readSheet text ≡ accepted d s)
 
 -- "A refusal gives its number, the line [..] and zeros elsewhere"
 abbrev pub refusedAs : (number line : ℕ) → Priced
@@ -38,12 +30,12 @@ valid-or-not s bs = elim (tree-or-none s bs) [ inl t ↦ inl t | inr e ↦ inr (
 module _ (text list : List ℕ) {r : Priced} (e : r ≡ pricedOf (priceText text list)) where
   pub text-refused : (k n : ℕ) → Refuses text k n → r ≡ refusedAs k n
   unfolding priceText pricedOf
-  text-refused k n q = e ∙ ap (λ (o : reading.Outcome). pricedOf (priceRead o list)) q
+  text-refused k n q = e ∙ ap pricedOf (on-refusal text (λ s. priceSheet s list) k n q)
 
   module _ (s : Sheet) (a : Accepts text s) where
     of-sheet : r ≡ pricedOf (priceSheet s list)
     unfolding priceText
-    of-sheet = e ∙ ap (λ (o : reading.Outcome). pricedOf (priceRead o list)) (a .1)
+    of-sheet = e ∙ ap pricedOf (on-sheet text (λ s. priceSheet s list) s a)
 
     -- a valid tree is priced, with its own figures
     pub tree-then-priced : (R D : ℕ) → trees.Priced s list R D → r ≡ pricedAs s (length list) R D

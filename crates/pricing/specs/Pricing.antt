@@ -1,5 +1,6 @@
 -- Pricing, in the words of document 01's sections "Pricing, score lines, finding" and "When it says no".
 use Prim.Native.Nat.{ℕ}
+use mathlib.Core.Path.{_≡_}
 use mathlib.Core.Bool.{cond}
 use mathlib.Core.List.{List}
 use mathlib.Core.Option.{none, some}
@@ -55,3 +56,7 @@ pricedOf o =
       distance = valueIn noFigures o .distance;
       total = valueIn noFigures o .total;
     }
+
+-- the promise of `price`, for every text and every list
+abbrev pub Prices : (text list : List ℕ) → answer.Priced → Type 0
+Prices text list r = r ≡ pricedOf (priceText text list)

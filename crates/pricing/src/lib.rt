@@ -6,7 +6,7 @@ ghost use lib.ListN.{length};
 ghost use Rattle.sheet.specs.Sheet.{Sheet};
 ghost use Rattle.sheet.specs.Accepted.{SheetHeld};
 ghost use Rattle.sheet.specs.Outcome as outcome;
-ghost use Rattle.pricing.specs.Pricing.{priceText, priceSheet, pricedOf};
+ghost use Rattle.pricing.specs.Pricing.{priceSheet, pricedOf, Prices};
 ghost use Rattle.pricing.specs.Steps.{Room, progressBehind, ItemEntry, ItemWalked, RowEntry, RowWalked, BarsWalked};
 use expansions::Expansion;
 use expansions::Interval;
@@ -222,7 +222,7 @@ pub fn price_sheet(grammar: GrammarTable, playing: PlayingTable, list: &[u8]) ->
 
 // Prices a list against the sheet that a text means.
 pub fn price(text: &[u8], list: &[u8]) -> Priced
-    ensures { λ r. ⌜ r ≡ pricedOf (priceText (now (text .entry)) (now (list .entry))) ⌝ }
+    ensures { λ r. ⌜ Prices (now (text .entry)) (now (list .entry)) r ⌝ }
 {
     let r = reading::read(text);
     let number = r.number;

@@ -4,8 +4,8 @@ ghost use Prim.Native.Nat.{_<_};
 ghost use lib.ListN.{length};
 ghost use Rattle.hextext.specs.Text.{lines};
 ghost use Rattle.sheet.specs.Outcome.{refused};
-ghost use Rattle.sheet.specs.Reading.{readSheet, readLines, nothing};
-ghost use Rattle.sheet.specs.Held.{readingOf};
+ghost use Rattle.sheet.specs.Reading.{readLines, nothing};
+ghost use Rattle.sheet.specs.Held.{readingOf, Reads};
 use grammar::head_of;
 use grammar::head_refusal;
 use grammar::no_grammar;
@@ -71,7 +71,7 @@ fn read_lines(text: &[u8]) -> Reading
 
 // The meaning of a text as a sheet, or its refusal.
 pub fn read(text: &[u8]) -> Reading
-    ensures { λ r. ⌜ r ≡ readingOf (readSheet (now (text .entry))) ⌝ }
+    ensures { λ r. ⌜ Reads (now (text .entry)) r ⌝ }
 {
     if 16384 < text.len() {
         return refused_at(1, 0);

@@ -41,7 +41,7 @@ S-not-priced = refl
 -- what writing on S does, by what it does on the sheet that S means
 on-S : (list : List ℕ) (room : ℕ) (o : Outcome (List ℕ)) → writeSheet sheetS list room ≡ o → writeText S list room ≡ o
 unfolding writeText
-on-S list room o e = on-sheet S (λ s. writeSheet s list room) _ S-means ∙ e
+on-S list room o e = on-sheet S (λ s. writeSheet s list room) sheetS (_, S-means) ∙ e
 
 -- the tree's text for a slice of `room` bytes
 S-text : (room : ℕ) → writeText S treeOfS room ≡ textWithin room linesOfS

@@ -1,5 +1,6 @@
 -- Writing, in the words of document 01's sections "Pricing, score lines, finding" and "When it says no".
 use Prim.Native.Nat.{ℕ}
+use mathlib.Core.Path.{_≡_}
 use mathlib.Core.Bool.{cond}
 use mathlib.Core.List.{List, []}
 use lib.Dec.{leb}
@@ -42,3 +43,8 @@ unfoldable pub scoreAfter : Outcome (List ℕ) → List ℕ → List ℕ
 unfolding over
 scoreAfter (refused k n) score = score
 scoreAfter (accepted text) score = over text score
+
+-- the promise of `write`, for every text, every list and every slice
+abbrev pub Writes : (text list score score′ : List ℕ) → answer.Written → Type 0
+Writes text list score score′ r =
+    (r ≡ writtenOf (writeText text list (length score))) × (score′ ≡ scoreAfter (writeText text list (length score)) score)

@@ -3,7 +3,7 @@
 -- tree; 13 exactly when it is one and the slice is shorter than the exact text. A refusal keeps the slice.
 use Prim.Native.Nat.{ℕ, _≤_, _<_}
 use mathlib.Core.Path.{_≡_, refl, sym, ap, _∙_}
-use mathlib.Core.List.{List, _++_}
+use mathlib.Core.List.{List, _++_, map}
 use mathlib.Core.Logic.{_⊎_, inl, inr, _↔_}
 use native.Mathlib.Decide.{decLe}
 use native.Mathlib.Omega.{arith}
@@ -11,26 +11,26 @@ use borrow.Author.Tests.{le-leb, lt-leb}
 use lib.ListN.{length, drop}
 use Rattle.slices.specs.Over.{over-drop}
 use Rattle.sheet.specs.Sheet.{Sheet}
-use Rattle.sheet.specs.Reading as reading
+use Rattle.sheet.specs.Outcome.{Outcome, refused, accepted}
+use Rattle.sheet.specs.Accepted.{Refuses, Accepts, on-refusal, on-sheet}
 use Rattle.trees.specs.ValidTrees.{Leaf, entries, ValidTree, Priced, totalOf}
-use Rattle.trees.specs.Leaves.{entriesOf, leaves-of}
-use Rattle.pricing.specs.Pricing as pricing
+use Rattle.trees.specs.Leaves.{leaves-of}
+use Rattle.pricing.specs.Pricing.{Figures, priceSheet}
 use Rattle.pricing.specs.PricingLaws.{tree-priced, none-refused}
-use Rattle.pricing.specs.PriceLaws.{Refuses, Accepts, valid-or-not}
+use Rattle.pricing.specs.PriceLaws.{valid-or-not}
 use Rattle.score.specs.declared.Written.{Written}
-use Rattle.score.specs.Score.{scoreText}
-use Rattle.score.specs.Writing.{Outcome, refusal, written, textWithin, writePriced, writeSheet, writeRead, writeText}
-use Rattle.score.specs.Writing.{writtenOf, scoreAfter}
+use Rattle.score.specs.Score.{scoreText, scoreLeaf, treeText}
+use Rattle.score.specs.Writing.{textWithin, writePriced, writeSheet, writeText, writtenOf, scoreAfter}
 
 -- the exact text of a valid tree: the lines of its own leaves with their placed onsets, at its own R, D and total
 abbrev pub scoreOf : (s : Sheet) → {bytes : List ℕ} {R D : ℕ} → Priced s bytes R D → List ℕ
-scoreOf s {bytes} {R} {D} p = scoreText (s .playing .bars) R D (totalOf s R D) (entries s (p .valid .leaves))
+scoreOf s {bytes} {R} {D} p = scoreText (s .playing .bars) R D (totalOf s R D) (map scoreLeaf (entries s (p .valid .leaves)))
 
 -- the entries that are computed from the list are those of its leaves
 pub own-text : (s : Sheet) {bs : List ℕ} {R D : ℕ} (p : Priced s bs R D)
-    → scoreText (s .playing .bars) R D (totalOf s R D) (entriesOf s bs) ≡ scoreOf s p
+    → treeText s bs R D (totalOf s R D) ≡ scoreOf s p
 own-text s {bs} {R} {D} p =
-    ap (λ (ls : List Leaf). scoreText (s .playing .bars) R D (totalOf s R D) (entries s ls)) (sym (leaves-of s bs (p .valid)))
+    ap (λ (ls : List Leaf). scoreText (s .playing .bars) R D (totalOf s R D) (map scoreLeaf (entries s ls))) (sym (leaves-of s bs (p .valid)))
 
 -- a list is a valid tree with its own R and D, and a slice of `room` bytes has room for its text or is short of it
 abbrev pub Fitting : Sheet → (list : List ℕ) → (room : ℕ) → Type 0
@@ -78,23 +78,22 @@ number r = r .number
 
 module _ (text list score : List ℕ) {score′ : List ℕ} {r : Written} (e : r ≡ writtenOf (writeText text list (length score)))
     (after : score′ ≡ scoreAfter (writeText text list (length score)) score) where
-  given : (o : Outcome) → writeText text list (length score) ≡ o → (r ≡ writtenOf o) × (score′ ≡ scoreAfter o score)
-  given o q = (e ∙ ap writtenOf q, after ∙ ap (λ (o : Outcome). scoreAfter o score) q)
+  given : (o : Outcome (List ℕ)) → writeText text list (length score) ≡ o → (r ≡ writtenOf o) × (score′ ≡ scoreAfter o score)
+  given o q = (e ∙ ap writtenOf q, after ∙ ap (λ (o : Outcome (List ℕ)). scoreAfter o score) q)
 
-  given-refused : (k n : ℕ) → writeText text list (length score) ≡ refusal k n → (r ≡ refusedAs k n) × (score′ ≡ score)
+  given-refused : (k n : ℕ) → writeText text list (length score) ≡ refused k n → (r ≡ refusedAs k n) × (score′ ≡ score)
   unfolding writtenOf scoreAfter
-  given-refused k n q = given (refusal k n) q
+  given-refused k n q = given (refused k n) q
 
   pub text-refused : (k n : ℕ) → Refuses text k n → (r ≡ refusedAs k n) × (score′ ≡ score)
   unfolding writeText
-  text-refused k n q = given-refused k n (ap (λ (o : reading.Outcome). writeRead o list (length score)) q)
+  text-refused k n q = given-refused k n (on-refusal text (λ s. writeSheet s list (length score)) k n q)
 
   module _ (s : Sheet) (a : Accepts text s) where
-    of-price : (o : pricing.Outcome) → pricing.priceSheet s list ≡ o
+    of-price : (o : Outcome Figures) → priceSheet s list ≡ o
         → writeText text list (length score) ≡ writePriced s list (length score) o
     unfolding writeText writeSheet
-    of-price o q =
-        ap (λ (o : reading.Outcome). writeRead o list (length score)) (a .1) ∙ ap (writePriced s list (length score)) q
+    of-price o q = on-sheet text (λ s. writeSheet s list (length score)) s a ∙ ap (writePriced s list (length score)) q
 
     -- what is no valid tree is refused with 12
     pub none-then-twelve : (ValidTree s list → ⊥) → (r ≡ refusedAs 12 0) × (score′ ≡ score)
@@ -109,7 +108,7 @@ module _ (text list score : List ℕ) {score′ : List ℕ} {r : Written} (e : r
           → (r ≡ writtenAs (length (scoreOf s p))) × (score′ ≡ scoreOf s p ++ drop (length (scoreOf s p)) score)
       unfolding textWithin writtenOf scoreAfter
       fitting-then-written h =
-          let (x, y) = given (written (scoreOf s p)) (of-text ∙ rw (le-leb (length (scoreOf s p)) (length score) h) refl) in
+          let (x, y) = given (accepted (scoreOf s p)) (of-text ∙ rw (le-leb (length (scoreOf s p)) (length score) h) refl) in
           (x, y ∙ over-drop (scoreOf s p) score h)
 
       -- a slice that is short of it is kept

@@ -7,7 +7,7 @@ ghost use Rattle.sheet.specs.Accepted.{SheetHeld};
 ghost use Rattle.score.specs.ScoreLaws.{textSize};
 ghost use Rattle.score.specs.LeafRules.{leafOne, leafRules};
 ghost use Rattle.sheet.specs.Outcome as outcome;
-ghost use Rattle.score.specs.Writing.{writeSheet, writeText, writtenOf, scoreAfter};
+ghost use Rattle.score.specs.Writing.{writeSheet, writtenOf, scoreAfter, Writes};
 ghost use Rattle.expansions.specs.Tables.{RulesHeld};
 ghost use Rattle.score.specs.Steps.{TextEntry, TextWritten, PricedEntry};
 
@@ -159,9 +159,7 @@ pub fn write_sheet(
 
 // Writes the score lines of a list against the sheet that a text means.
 pub fn write(text: &[u8], list: &[u8], score: &mut [u8]) -> Written
-    ensures { λ r. ⌜ (r ≡ writtenOf (writeText (now (text .entry)) (now (list .entry)) (length (now (score .entry)))))
-        × (now (score .exit)
-        ≡ scoreAfter (writeText (now (text .entry)) (now (list .entry)) (length (now (score .entry)))) (now (score .entry))) ⌝ }
+    ensures { λ r. ⌜ Writes (now (text .entry)) (now (list .entry)) (now (score .entry)) (now (score .exit)) r ⌝ }
 {
     let r = reading::read(text);
     let number = r.number;

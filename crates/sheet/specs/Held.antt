@@ -18,6 +18,7 @@ use Rattle.sheet.specs.declared.table.TimingTable.{TimingTable}
 use Rattle.sheet.specs.declared.table.Reading.{Reading}
 use Rattle.sheet.specs.Sheet.{Rule, division, leaf, Onset, Grammar, Playing, Timing, TimedSheet}
 use Rattle.sheet.specs.Outcome.{Outcome, numberIn, lineIn, valueIn}
+use Rattle.sheet.specs.Reading.{readSheet}
 
 abbrev pub micros : ℕ → Micros
 micros t = record { 0 = t }
@@ -105,3 +106,7 @@ readingOf o =
       grammar = grammarTable (valueIn noSheet o .sheet .grammar);
       playing = playingTable (valueIn noSheet o .sheet .playing);
     }
+
+-- the promise of `read`, for every text
+abbrev pub Reads : (text : List ℕ) → Reading → Type 0
+Reads text r = r ≡ readingOf (readSheet text)
