@@ -8,8 +8,9 @@ use lib.ListN.{getD, List·getD-map, List·getD-eq-default}
 use Rattle.slices.specs.Pad.{getD-pad}
 use Rattle.sheet.specs.declared.table.Reading.{Reading}
 use Rattle.sheet.specs.declared.clock.Units.{Units}
-use Rattle.sheet.specs.Sheet.{Onset, Sheet}
-use Rattle.sheet.specs.Reading.{Outcome, refused, accepted, numberIn, lineIn, readSheet}
+use Rattle.sheet.specs.Sheet.{Onset, Sheet, TimedSheet}
+use Rattle.sheet.specs.Outcome.{Outcome, refused, accepted, numberIn, lineIn}
+use Rattle.sheet.specs.Reading.{readSheet}
 use Rattle.sheet.specs.Held.{units, unitsOf, grammarTable, playingTable, readingOf}
 use Rattle.sheet.specs.Good.{Good}
 use Rattle.sheet.specs.GoodLaws.{good}
@@ -18,40 +19,37 @@ use Rattle.sheet.specs.Accepted.{refused-reading, accepted-reading}
 use Rattle.sizes.specs.Sizes.{workCells, treeBytes}
 use Rattle.cabi.specs.Entries.{workOf, treeOf, noOnset, unitAt}
 
--- a reading's number and line are the outcome's
-numbers : (o : Outcome) → (readingOf o .number ≡ numberIn o) × (readingOf o .line ≡ lineIn o)
-unfolding readingOf
-numbers (refused k n) = (refl, refl)
-numbers (accepted d s) = (refl, refl)
-
 module _ (t : List ℕ) (r : Reading) (e : r ≡ readingOf (readSheet t)) where
+  -- its number and line are the outcome's
   pub number-is : r .number ≡ numberIn (readSheet t)
-  number-is = ap (λ (x : Reading). x .number) e ∙ numbers (readSheet t) .0
+  unfolding readingOf
+  number-is = ap (λ (x : Reading). x .number) e
 
   pub line-is : r .line ≡ lineIn (readSheet t)
-  line-is = ap (λ (x : Reading). x .line) e ∙ numbers (readSheet t) .1
+  unfolding readingOf
+  line-is = ap (λ (x : Reading). x .line) e
 
   -- by whether the text is refused
-  by-outcome : (P : Outcome → Type 0) → ((k n : ℕ) → readSheet t ≡ refused k n → P (refused k n))
-      → ((d : ℕ) (s : Sheet) → readSheet t ≡ accepted d s → Good d s → P (accepted d s)) → P (readSheet t)
+  by-outcome : (P : Outcome TimedSheet → Type 0) → ((k n : ℕ) → readSheet t ≡ refused k n → P (refused k n))
+      → ((x : TimedSheet) → Good (x .sheet) → P (accepted x)) → P (readSheet t)
   by-outcome P f g = go (readSheet t) refl
     where
-      go : (o : Outcome) → readSheet t ≡ o → P o
+      go : (o : Outcome TimedSheet) → readSheet t ≡ o → P o
       go (refused k n) q = f k n q
-      go (accepted d s) q = g d s q (good t d s q)
+      go (accepted x) q = g x (good t x q)
 
   pub line-small : r .line ≤ 16385
   line-small =
       rw line-is
-      (by-outcome (λ (o : Outcome). lineIn o ≤ 16385) (λ k n q. refused-within t k n q .1) (λ d s q h. omega arith))
+      (by-outcome (λ (o : Outcome TimedSheet). lineIn o ≤ 16385) (λ k n q. refused-within t k n q .1) (λ x h. omega arith))
 
   -- the counts are within the tables
   pub counts : (r .grammar .count ≤ 64) × (r .playing .count ≤ 512)
   unfolding readingOf grammarTable playingTable
   counts =
-      rw e (by-outcome (λ (o : Outcome). (readingOf o .grammar .count ≤ 64) × (readingOf o .playing .count ≤ 512))
+      rw e (by-outcome (λ (o : Outcome TimedSheet). (readingOf o .grammar .count ≤ 64) × (readingOf o .playing .count ≤ 512))
       (λ k n q. (omega arith, omega arith))
-      (λ d s q h. (h .rules .most, h .onsets .most)))
+      (λ x h. (h .rules .most, h .onsets .most)))
 
   -- a refused text has no required lengths
   pub none-refused : (r .number ≡ 0 → ⊥) → (0 ≡ workOf (readSheet t)) × (0 ≡ treeOf (readSheet t))
@@ -60,27 +58,27 @@ module _ (t : List ℕ) (r : Reading) (e : r ≡ readingOf (readSheet t)) where
   -- those of an accepted text are its sheet's
   module _ (z : r .number ≡ 0) where
     pub work-is : (n : ℕ)
-        → ((d : ℕ) (s : Sheet) → Good d s → r .grammar ≡ grammarTable (s .grammar) → r .playing ≡ playingTable (s .playing)
+        → ((s : Sheet) → Good s → r .grammar ≡ grammarTable (s .grammar) → r .playing ≡ playingTable (s .playing)
         → n ≡ workCells s)
         → n ≡ workOf (readSheet t)
     work-is n f =
-        let (d, s, q, h) = accepted-reading t r e z in f (h .duration) s (h .good) (h .grammar) (h .playing) ∙ sym (ap workOf q)
+        let (s, a, h) = accepted-reading t r e z in f s (h .good) (h .grammar) (h .playing) ∙ sym (ap workOf (a .1))
 
     pub tree-is : (n : ℕ) → ((s : Sheet) → r .playing ≡ playingTable (s .playing) → n ≡ treeBytes s) → n ≡ treeOf (readSheet t)
-    tree-is n f = let (d, s, q, h) = accepted-reading t r e z in f s (h .playing) ∙ sym (ap treeOf q)
+    tree-is n f = let (s, a, h) = accepted-reading t r e z in f s (h .playing) ∙ sym (ap treeOf (a .1))
 
   -- a place of the units
   pub unit-is : (i : ℕ) → i < 512 → getD (r .playing .units) i (units 0) .0 ≡ unitAt (readSheet t) i
   unfolding readingOf playingTable
   unit-is i h =
-      rw e (by-outcome (λ (o : Outcome). getD (readingOf o .playing .units) i (units 0) .0 ≡ unitAt o i)
+      rw e (by-outcome (λ (o : Outcome TimedSheet). getD (readingOf o .playing .units) i (units 0) .0 ≡ unitAt o i)
       (λ k n q. ap (λ (u : Units). u .0) (getD-pad 512 (units 0) [] i h))
-      (λ d s q good. ap (λ (u : Units). u .0) (getD-pad 512 (units 0) (map unitsOf (s .playing .onsets)) i h
-      ∙ List·getD-map unitsOf (s .playing .onsets) i noOnset)))
+      (λ x good. ap (λ (u : Units). u .0) (getD-pad 512 (units 0) (map unitsOf (x .sheet .playing .onsets)) i h
+      ∙ List·getD-map unitsOf (x .sheet .playing .onsets) i noOnset)))
 
   -- past them there is no onset
   pub unit-none : (i : ℕ) → 512 ≤ i → 0 ≡ unitAt (readSheet t) i
   unit-none i h =
-      by-outcome (λ (o : Outcome). 0 ≡ unitAt o i) (λ k n q. refl)
-      (λ d s q good. sym (ap (λ (o : Onset). o .unit) (List·getD-eq-default (s .playing .onsets) noOnset {n = i}
+      by-outcome (λ (o : Outcome TimedSheet). 0 ≡ unitAt o i) (λ k n q. refl)
+      (λ x good. sym (ap (λ (o : Onset). o .unit) (List·getD-eq-default (x .sheet .playing .onsets) noOnset {n = i}
       (le-trans (good .onsets .most) h))))

@@ -17,22 +17,21 @@ use Rattle.sheet.specs.declared.table.Reading.{Reading}
 use Rattle.sheet.specs.Sheet.{Sheet}
 use Rattle.sheet.specs.Reading.{readSheet}
 use Rattle.sheet.specs.Held.{readingOf}
-use Rattle.sheet.specs.Accepted.{SheetHeld, AcceptedAs, refused-reading}
+use Rattle.sheet.specs.Outcome.{Outcome, refused, accepted}
+use Rattle.sheet.specs.Accepted.{SheetHeld, on-refused, on-held}
 use Rattle.trees.specs.ValidTrees.{totalOf}
 use Rattle.trees.specs.Theorems.{nodes-most}
 use Rattle.pricing.specs.declared.Priced.{Priced}
 use Rattle.pricing.specs.PricingLaws.{tree-priced}
 use Rattle.score.specs.declared.Written.{Written}
 use Rattle.score.specs.Score.{treeText}
-use Rattle.score.specs.Writing as writing
-use Rattle.score.specs.Writing.{written, noRoom, textWithin, writePriced, writeSheet, writtenOf, scoreAfter}
+use Rattle.score.specs.Writing.{noRoom, textWithin, writePriced, writeSheet, writtenOf, scoreAfter}
 use Rattle.score.specs.Steps.{PricedEntry}
-use Rattle.finding.specs.Finding.{Outcome, refusal, noTree, found, findSheet, Gives}
-use Rattle.finding.specs.Outcomes.{refused-found, sheet-found}
+use Rattle.finding.specs.Finding.{Search, noTree, found, findSheet, findText, Gives}
 use Rattle.finding.specs.FindingLaws.{TreeHandedBack, tree-handed-back}
 use Rattle.reporting.specs.declared.Shown.{Shown}
 use Rattle.reporting.specs.declared.Shown.the-variants.{Score, Line}
-use Rattle.reporting.specs.Reporting.{refusalLine, Page, scorePage, refusalPage, treeWith, pageWithin, Prints, Printed, Reports}
+use Rattle.reporting.specs.Reporting.{refusalLine, treeWith, Prints, Printed, Reports}
 use Rattle.reporting.specs.Restoring.{treeMost, restored}
 use Rattle.reporting.specs.ReportingLaws.{within-lines, within-short, prints}
 
@@ -62,8 +61,9 @@ kept-back {tree} same r q = put-back [] (omega arith) (same ∙ sym (over-nil tr
 
 -- the line of a refusal
 refused-page : (k n : ℕ) {score line lineAfter : List ℕ} {r : Shown} → r ≡ Line → lineAfter ≡ refusalLine k n
-    → Prints (refusalPage k n) score score line lineAfter r
-refused-page k n q e = prints (refusalPage k n) tt q refl e
+    → Prints (refused k n) score score line lineAfter r
+unfolding scoreAfter
+refused-page k n q e = prints (refused k n) tt q refl e
 
 module _ {s : Sheet} {g : GrammarTable} {p : PlayingTable} (h : SheetHeld s g p) {tree treeAfter work workAfter : List ℕ} {x : Priced}
     (f : Gives (findSheet s (length tree) (length work)) tree treeAfter work workAfter x) where
@@ -73,19 +73,19 @@ module _ {s : Sheet} {g : GrammarTable} {p : PlayingTable} (h : SheetHeld s g p)
       score score line lineAfter r
   refusal-reported nz score line lineAfter e r q = go (findSheet s (length tree) (length work)) f
     where
-      page : (k n : ℕ) → x .number ≡ k → x .line ≡ n → Prints (refusalPage k n) score score line lineAfter r
+      page : (k n : ℕ) → x .number ≡ k → x .line ≡ n → Prints (refused k n) score score line lineAfter r
       page k n a b = refused-page k n q (rw (← a, ← b) e)
 
-      go : (o : Outcome) → Gives o tree treeAfter work workAfter x
+      go : (o : Outcome Search) → Gives o tree treeAfter work workAfter x
           → Printed o tree (restored r (take treeMost tree) treeAfter) work workAfter score score line lineAfter r
-      go (refusal k n) g = (page k n (g .number) (g .line), kept-back (g .result .0 .tree-kept) r q, g .result .1)
-      go (noTree s) g = (page 11 0 (g .number) (g .line), kept-back (g .result .0 .tree-kept) r q, g .result .1)
-      go (found s) g = absurd (nz (g .number))
+      go (refused k n) g = (page k n (g .number) (g .line), kept-back (g .result .0 .tree-kept) r q, g .result .1)
+      go (accepted (noTree s)) g = (page 11 0 (g .number) (g .line), kept-back (g .result .0 .tree-kept) r q, g .result .1)
+      go (accepted (found s)) g = absurd (nz (g .number))
 
   -- a tree
   module _ (z : x .number ≡ 0) where
     abbrev back : TreeHandedBack s tree treeAfter work workAfter x
-    back = tree-handed-back s (h .duration) (h .good) f z
+    back = tree-handed-back s (h .good) f z
 
     pub nodes-within : x .nodes ≤ length treeAfter
     nodes-within = back .within
@@ -104,7 +104,7 @@ module _ {s : Sheet} {g : GrammarTable} {p : PlayingTable} (h : SheetHeld s g p)
 
     -- no tree has more bytes than are put back
     few : length bytes ≤ treeMost
-    few = nodes-most s (h .duration) (h .good) bytes (back .least .valid .valid)
+    few = nodes-most s (h .good) bytes (back .least .valid .valid)
 
     -- writing gives its score lines, or 13
     wrote : (room : ℕ) → writeSheet s bytes room ≡ textWithin room lines
@@ -118,15 +118,16 @@ module _ {s : Sheet} {g : GrammarTable} {p : PlayingTable} (h : SheetHeld s g p)
       room = length score
 
       -- by whether the slice has room
-      by-room : (P : writing.Outcome → Page → Type 0) → (length lines ≤ room → P (written lines) (scorePage lines))
-          → P noRoom (refusalPage 13 0) → P (writeSheet s bytes room) (pageWithin room lines)
-      unfolding textWithin
+      by-room : (P : Outcome (List ℕ) → Type 0) → (length lines ≤ room → P (accepted lines)) → P noRoom → P (textWithin room lines)
       by-room P has short = elim (decLe (length lines) room) [
-        | yes h ↦ rw (wrote room, within-lines room lines h, le-leb (length lines) room h) (has h)
-        | no h ↦ let l : room < length lines = omega arith in rw (wrote room, within-short room lines l, lt-leb (length lines) room l) short
+        | yes h ↦ rw (within-lines room lines h) (has h)
+        | no h ↦ let l : room < length lines = omega arith in rw (within-short room lines l) short
       ]
 
-      abbrev Answers : Page → (line lineAfter : List ℕ) → Shown → Type 0
+      wrote-so : (w ≡ writtenOf (textWithin room lines)) × (scoreOut ≡ scoreAfter (textWithin room lines) score)
+      wrote-so = rw (sym (wrote room)) told
+
+      abbrev Answers : Outcome (List ℕ) → (line lineAfter : List ℕ) → Shown → Type 0
       Answers p line lineAfter r = (restored r (take treeMost tree) treeAfter ≡ treeWith p bytes tree) × Prints p score scoreOut line lineAfter r
 
       abbrev Reported : (line lineAfter : List ℕ) → Shown → Type 0
@@ -134,9 +135,9 @@ module _ {s : Sheet} {g : GrammarTable} {p : PlayingTable} (h : SheetHeld s g p)
           Printed (findSheet s (length tree) (length work)) tree (restored r (take treeMost tree) treeAfter) work workAfter score scoreOut line
           lineAfter r
 
-      whole : (line lineAfter : List ℕ) (r : Shown) → Answers (pageWithin room lines) line lineAfter r → Reported line lineAfter r
+      whole : (line lineAfter : List ℕ) (r : Shown) → Answers (textWithin room lines) line lineAfter r → Reported line lineAfter r
       whole line lineAfter r (t, p) =
-          subst (λ (o : Outcome). Printed o tree (restored r (take treeMost tree) treeAfter) work workAfter score scoreOut line lineAfter r)
+          subst (λ (o : Outcome Search). Printed o tree (restored r (take treeMost tree) treeAfter) work workAfter score scoreOut line lineAfter r)
           (sym (back .outcome)) (
             record {
               bytes = bytes;
@@ -155,46 +156,47 @@ module _ {s : Sheet} {g : GrammarTable} {p : PlayingTable} (h : SheetHeld s g p)
       unfolding writtenOf scoreAfter
       short-reported nz line lineAfter e r q =
           whole line lineAfter r
-          (by-room (λ o p. w ≡ writtenOf o → scoreOut ≡ scoreAfter o score → Answers p line lineAfter r)
+          (by-room (λ o. w ≡ writtenOf o → scoreOut ≡ scoreAfter o score → Answers o line lineAfter r)
           (λ h a b. absurd (nz (ap (λ (v : Written). v .number) a)))
           (λ a b. (
             put-back bytes few (back .written) r q,
-            prints (refusalPage 13 0) tt q b (e ∙ ap (λ (v : Written). refusalLine (v .number) (v .line)) a),
+            prints (refused 13 0) tt q b (e ∙ ap (λ (v : Written). refusalLine (v .number) (v .line)) a),
           ))
-          (told .0) (told .1))
+          (wrote-so .0) (wrote-so .1))
 
       -- the score lines
       pub score-reported : w .number ≡ 0 → (line : List ℕ) (r : Shown) → r ≡ Score (w .bytes) → Reported line line r
       unfolding writtenOf scoreAfter
       score-reported zw line r q =
           whole line line r
-          (by-room (λ o p. w ≡ writtenOf o → scoreOut ≡ scoreAfter o score → Answers p line line r)
-          (λ h a b. (rw q (back .written), prints (scorePage lines) h (q ∙ ap (λ (v : Written). Score (v .bytes)) a) b refl))
+          (by-room (λ o. w ≡ writtenOf o → scoreOut ≡ scoreAfter o score → Answers o line line r)
+          (λ h a b. (rw q (back .written), prints (accepted lines) h (q ∙ ap (λ (v : Written). Score (v .bytes)) a) b refl))
           (λ a b. let e : _≡_ {A = ℕ} 0 13 = sym zw ∙ ap (λ (v : Written). v .number) a in let f : ⊥ = omega arith in absurd f)
-          (told .0) (told .1))
+          (wrote-so .0) (wrote-so .1))
 
 -- ---- `compose`
 
--- a text that is refused
-pub text-refused : (text tree work score line lineAfter : List ℕ) (x : Reading) → x ≡ readingOf (readSheet text) → (x .number ≡ 0 → ⊥)
-    → (r : Shown) → r ≡ Line → lineAfter ≡ refusalLine (x .number) (x .line)
-    → Reports text tree (restored r (take treeMost tree) tree) work work score score line lineAfter r
-text-refused text tree work score line lineAfter x e nz r q l = record {
-  is = subst (λ (o : Outcome). Printed o tree (restored r (take treeMost tree) tree) work work score score line lineAfter r)
-      (sym (refused-found text _ _ (x .number) (x .line) (refused-reading text x e nz)))
-      (refused-page (x .number) (x .line) q l, kept-back refl r q, refl);
-}
+module _ (text tree work score line lineAfter : List ℕ) (x : Reading) (e : x ≡ readingOf (readSheet text)) (r : Shown) where
+  -- a text that is refused
+  pub text-refused : (x .number ≡ 0 → ⊥) → r ≡ Line → lineAfter ≡ refusalLine (x .number) (x .line)
+      → Reports text tree (restored r (take treeMost tree) tree) work work score score line lineAfter r
+  unfolding findText
+  text-refused nz q l = record {
+    is = subst (λ (o : Outcome Search). Printed o tree (restored r (take treeMost tree) tree) work work score score line lineAfter r)
+        (sym (on-refused text x e (λ s. findSheet s (length tree) (length work)) nz))
+        (refused-page (x .number) (x .line) q l, kept-back refl r q, refl);
+  }
 
--- a text that means a sheet
-pub text-reported : {text tree treeAfter work workAfter score scoreAfter line lineAfter : List ℕ} {g : GrammarTable} {p : PlayingTable}
-    {r : Shown} → AcceptedAs text g p
-    → ((s : Sheet) → SheetHeld s g p
-    → Printed (findSheet s (length tree) (length work)) tree treeAfter work workAfter score scoreAfter line lineAfter r)
-    → Reports text tree treeAfter work workAfter score scoreAfter line lineAfter r
-text-reported {text} {tree} {treeAfter} {work} {workAfter} {score} {scoreAfter} {line} {lineAfter} {r = r} (d, s, e, h) f = record {
-  is = subst (λ (o : Outcome). Printed o tree treeAfter work workAfter score scoreAfter line lineAfter r)
-      (sym (sheet-found text _ _ d s e)) (f s h);
-}
+  -- a text that means a sheet
+  pub text-reported : (treeAfter workAfter scoreAfter : List ℕ) → x .number ≡ 0
+      → ((s : Sheet) → SheetHeld s (x .grammar) (x .playing)
+      → Printed (findSheet s (length tree) (length work)) tree treeAfter work workAfter score scoreAfter line lineAfter r)
+      → Reports text tree treeAfter work workAfter score scoreAfter line lineAfter r
+  unfolding findText
+  text-reported treeAfter workAfter scoreAfter z f = record {
+    is = on-held text x e (λ s. findSheet s (length tree) (length work))
+        (λ (o : Outcome Search). Printed o tree treeAfter work workAfter score scoreAfter line lineAfter r) z f;
+  }
 
 -- ---- `report`
 

@@ -12,15 +12,16 @@ use Rattle.sheet.specs.Sheet.{Sheet}
 use Rattle.sizes.specs.Sizes.{treeBytes, workCells}
 use Rattle.trees.specs.ValidTrees.{ValidTree}
 use Rattle.trees.specs.Found.{LeastTree}
-use Rattle.pricing.specs.PriceLaws.{Refuses, Accepts}
+use Rattle.sheet.specs.Outcome.{Outcome, refused, accepted}
+use Rattle.sheet.specs.Accepted.{Refuses, Accepts}
 use Rattle.score.specs.WritingLaws.{scoreOf, own-text}
-use Rattle.finding.specs.declared.Shown.{Shown}
-use Rattle.finding.specs.Finding.{Outcome, refusal, noTree, found, findText, cleared}
-use Rattle.finding.specs.Outcomes.{refused-found}
+use Rattle.reporting.specs.declared.Shown.{Shown}
+use Rattle.finding.specs.Finding.{Search, noTree, found, findText, cleared}
+use Rattle.finding.specs.FindingLaws.{refused-found}
 use Rattle.finding.specs.FindLaws.{outcome-nine, outcome-ten, outcome-eleven, outcome-found, by-slices}
-use Rattle.finding.specs.Reporting.{refusalLine, Page, scorePage, refusalPage, pageText, printed, scoreWith, treeWith, pageWithin}
-use Rattle.finding.specs.Reporting.{PrintsTree, Printed, Reports}
-use Rattle.finding.specs.ReportingLaws.{within-lines, within-short}
+use Rattle.score.specs.Writing.{textWithin, scoreAfter}
+use Rattle.reporting.specs.Reporting.{refusalLine, pageText, printed, treeWith, PrintsTree, Printed, Reports}
+use Rattle.reporting.specs.ReportingLaws.{within-lines, within-short}
 
 -- the line of a refusal is printed, and the tree and score slices are kept
 abbrev pub LineOnly : (k n : ℕ) → (tree tree′ score score′ line′ : List ℕ) → Shown → Type 0
@@ -42,36 +43,38 @@ module _ (s : Sheet) {tree tree′ score score′ line line′ : List ℕ} {r : 
   abbrev lines : List ℕ
   lines = scoreOf s (p .least .valid)
 
-  of-page : (g : Page) → pageWithin (length score) lines ≡ g
-      → (printed r score′ line′ ≡ pageText g) × (tree′ ≡ treeWith g (p .bytes) tree) × (score′ ≡ scoreWith g score)
+  of-page : (g : Outcome (List ℕ)) → textWithin (length score) lines ≡ g
+      → (printed r score′ line′ ≡ pageText g) × (tree′ ≡ treeWith g (p .bytes) tree) × (score′ ≡ scoreAfter g score)
   of-page g q =
-      let e = ap (pageWithin (length score)) (own-text s (p .least .valid)) ∙ q in (
+      let e = ap (textWithin (length score)) (own-text s (p .least .valid)) ∙ q in (
         p .page .text ∙ ap pageText e,
-        p .tree-is ∙ ap (λ (g : Page). treeWith g (p .bytes) tree) e,
-        p .page .score-is ∙ ap (λ (g : Page). scoreWith g score) e,
+        p .tree-is ∙ ap (λ (g : Outcome (List ℕ)). treeWith g (p .bytes) tree) e,
+        p .page .score-is ∙ ap (λ (g : Outcome (List ℕ)). scoreAfter g score) e,
       )
 
   scored : Scored s tree tree′ score score′ line′ r
+  unfolding scoreAfter
   scored = (
     p .bytes,
     p .weight,
     p .distance,
     p .least,
     elim (decLe (length lines) (length score)) [
-      | yes h ↦ let g = of-page (scorePage lines) (within-lines (length score) lines h) in
+      | yes h ↦ let g = of-page (accepted lines) (within-lines (length score) lines h) in
           inr (h, (g .0, g .1, g .2 ∙ over-drop lines score h))
-      | no h ↦ inl (omega arith, of-page (refusalPage 13 0) (within-short (length score) lines (omega arith)))
+      | no h ↦ inl (omega arith, of-page (refused 13 0) (within-short (length score) lines (omega arith)))
     ],
   )
 
 module _ (text : List ℕ) {tree tree′ work work′ score score′ line line′ : List ℕ} {r : Shown}
     (h : Reports text tree tree′ work work′ score score′ line line′ r) where
-  given : (o : Outcome) → findText text (length tree) (length work) ≡ o → Printed o tree tree′ work work′ score score′ line line′ r
-  given o q = subst (λ (o : Outcome). Printed o tree tree′ work work′ score score′ line line′ r) q (h .is)
+  given : (o : Outcome Search) → findText text (length tree) (length work) ≡ o → Printed o tree tree′ work work′ score score′ line line′ r
+  given o q = subst (λ (o : Outcome Search). Printed o tree tree′ work work′ score score′ line line′ r) q (h .is)
 
-  given-refused : (k n : ℕ) → findText text (length tree) (length work) ≡ refusal k n
+  given-refused : (k n : ℕ) → findText text (length tree) (length work) ≡ refused k n
       → LineOnly k n tree tree′ score score′ line′ r × (work′ ≡ work)
-  given-refused k n q = let (p, t, w) = given (refusal k n) q in ((p .text, t, p .score-is), w)
+  unfolding scoreAfter
+  given-refused k n q = let (p, t, w) = given (refused k n) q in ((p .text, t, p .score-is), w)
 
   pub text-refused : (k n : ℕ) → Refuses text k n → LineOnly k n tree tree′ score score′ line′ r × (work′ ≡ work)
   text-refused k n e = given-refused k n (refused-found text _ _ k n e)
@@ -87,13 +90,14 @@ module _ (text : List ℕ) {tree tree′ work work′ score score′ line line�
       module _ (t : treeBytes s ≤ length tree) where
         pub no-tree-then-eleven : ((bs : List ℕ) → ValidTree s bs → ⊥)
             → LineOnly 11 0 tree tree′ score score′ line′ r × (work′ ≡ cleared s work)
+        unfolding scoreAfter
         no-tree-then-eleven n =
-            let (p, t, w) = given (noTree s) (outcome-eleven text _ _ s a w t n) in ((p .text, t, p .score-is), w)
+            let (p, t, w) = given (accepted (noTree s)) (outcome-eleven text _ _ s a w t n) in ((p .text, t, p .score-is), w)
 
         -- a least tree: its score text, or 13 where the score slice is short of it
         pub some-then-score : (bs : List ℕ) → ValidTree s bs → Scored s tree tree′ score score′ line′ r × (work′ ≡ cleared s work)
         some-then-score bs v =
-            let (p, c) = given (found s) (outcome-found text _ _ s a w t bs v) in (scored s p, c)
+            let (p, c) = given (accepted (found s)) (outcome-found text _ _ s a w t bs v) in (scored s p, c)
 
     -- there is no other way: each answer under its condition
     pub report-answers : ((length work < workCells s) × LineOnly 9 0 tree tree′ score score′ line′ r × (work′ ≡ work))

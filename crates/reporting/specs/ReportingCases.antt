@@ -22,11 +22,14 @@ use Rattle.pricing.specs.Pricing.{priceSheet}
 use Rattle.hextext.specs.Fields.{bigEndian}
 use Rattle.score.specs.Cases.{linesOfS, S-score}
 use Rattle.reporting.specs.declared.Shown.{Shown}
-use Rattle.finding.specs.Finding.{hasTree, Outcome, found, findText}
-use Rattle.finding.specs.Outcomes.{one-found, sheet-found}
+use Rattle.sheet.specs.Outcome.{Outcome, accepted}
+use Rattle.score.specs.Writing.{textWithin}
+use Rattle.finding.specs.Finding.{hasTree, Search, found, findText}
+use Rattle.finding.specs.Outcomes.{one-found}
+use Rattle.finding.specs.FindingLaws.{sheet-found}
 use Rattle.finding.specs.Cases.{onlyTree, everyList}
 use Rattle.finding.specs.FindingCases.{one-least}
-use Rattle.reporting.specs.Reporting.{Page, refusalLine, pageText, treeWith, pageWithin, printed, PrintsTree, Printed, Reports}
+use Rattle.reporting.specs.Reporting.{refusalLine, pageText, treeWith, printed, PrintsTree, Printed, Reports}
 use Rattle.reporting.specs.ReportingLaws.{within-lines, within-short}
 
 -- ---- lines of refusals
@@ -57,17 +60,17 @@ S-least = one-least sheetS (1 ∷ 3 ∷ 3 ∷ []) 3 8 1008 1088 refl refl
 
 module _ (tree treeAfter work workAfter score scoreAfter line lineAfter : List ℕ) (shown : Shown) (w : 464 ≤ length work)
     (t : 161 ≤ length tree) (r : Reports S tree treeAfter work workAfter score scoreAfter line lineAfter shown) where
-  S-outcome : findText S (length tree) (length work) ≡ found sheetS
+  S-outcome : findText S (length tree) (length work) ≡ accepted (found sheetS)
   S-outcome =
-      sheet-found S _ _ 2_000_000 sheetS S-means
+      sheet-found S _ _ sheetS (_, S-means)
       ∙ one-found sheetS _ _ (omega (arith, S-cells)) (omega (arith, S-room)) S-has-tree
 
   S-tree : PrintsTree sheetS tree treeAfter score scoreAfter line lineAfter shown
   S-tree =
-      subst (λ (o : Outcome). Printed o tree treeAfter work workAfter score scoreAfter line lineAfter shown) S-outcome (r .is) .0
+      subst (λ (o : Outcome Search). Printed o tree treeAfter work workAfter score scoreAfter line lineAfter shown) S-outcome (r .is) .0
 
-  abbrev page : Page
-  page = pageWithin (length score) linesOfS
+  abbrev page : Outcome (List ℕ)
+  page = textWithin (length score) linesOfS
 
   -- what is printed, and the tree slice
   S-shown : (printed shown scoreAfter lineAfter ≡ pageText page) × (treeAfter ≡ treeWith page (1 ∷ 3 ∷ 3 ∷ []) tree)
@@ -86,4 +89,4 @@ module _ (tree treeAfter work workAfter score scoreAfter line lineAfter : List �
   S-refused h = S-shown .0 ∙ ap pageText (within-short (length score) linesOfS h)
 
   pub S-kept : length score < 95 → treeAfter ≡ tree
-  S-kept h = S-shown .1 ∙ ap (λ (p : Page). treeWith p (1 ∷ 3 ∷ 3 ∷ []) tree) (within-short (length score) linesOfS h)
+  S-kept h = S-shown .1 ∙ ap (λ (p : Outcome (List ℕ)). treeWith p (1 ∷ 3 ∷ 3 ∷ []) tree) (within-short (length score) linesOfS h)

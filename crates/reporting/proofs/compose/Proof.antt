@@ -1,6 +1,6 @@
 -- `compose` meets its contract: the line of reading's refusal, or what `compose_sheet` gives of the sheet that the text means. Assumes
 -- nothing.
-use Rattle.sheet.specs.Accepted.{sheet-held, accepted-reading}
+use Rattle.sheet.specs.Accepted.{held-sheet}
 use Rattle.reporting.proofs.ReportSteps.{text-refused, text-reported}
 use borrow.Author.Needs.{needs}
 use Rattle.reporting.proofs.compose.Statement.{statement}
@@ -14,19 +14,17 @@ refuse-requires c κs = search needs
 
 returns : tie.Need-returns
 returns c =
-    let refuse = c .refuse in
-    let if1 = c .before .before .if1 in
-    let read = c .before .before .before .read in
-    let start = c .before .before .before .before .before .before .before .before in
-    text-refused (start .args .text .now) (start .args .tree .now) (start .args .work .now) _ _ _ (read .result) (read .ensures)
-    (if1 .taken) _ (refuse .ensures .0) (refuse .ensures .1)
+    let at-if1 = c .before .before in
+    let at-read = at-if1 .before in
+    let at-start = at-read .before .before .before .before .before in
+    text-refused (at-start .args .text .now) (at-start .args .tree .now) (at-start .args .work .now) _ _ _ (at-read .read .result)
+    (at-read .read .ensures) _ (at-if1 .if1 .taken) (c .refuse .ensures .0) (c .refuse .ensures .1)
 
 compose-sheet-requires : tie.Need-compose-sheet-requires
 compose-sheet-requires c κs =
-    let if1 = c .before .before .before .before .before .before .if1 in
-    let read = c .before .before .before .before .before .before .before .read in
-    let start = c .before .before .before .before .before .before .before .before .before .before .before .before in
-    sheet-held (start .args .text .now) _ _ (accepted-reading (start .args .text .now) (read .result) (read .ensures) (if1 .left))
+    let at-if1 = c .before .before .before .before .before .before in
+    let at-read = at-if1 .before in
+    held-sheet _ (at-read .read .result) (at-read .read .ensures) (at-if1 .if1 .left)
 
 same-length : tie.Need-same-length
 same-length c = search needs
@@ -39,12 +37,13 @@ same-length-3 c = search needs
 
 returns-2 : tie.Need-returns-2
 returns-2 c =
-    let compose-sheet = c .before .before .before .before .before .before .compose-sheet in
-    let if1 = c .before .before .before .before .before .before .before .before .before .before .before .before .before .if1 in
-    let further = c .before .before .before .before .before .before .before .before .before .before .before .before in
-    let read = further .before .before .read in
-    let start = further .before .before .before .before .before .before .before in
-    text-reported (accepted-reading (start .args .text .now) (read .result) (read .ensures) (if1 .left)) (compose-sheet .ensures)
+    let at-sheet = c .before .before .before .before .before .before in
+    let at-if1 = at-sheet .before .before .before .before .before .before .before in
+    let at-read = at-if1 .before in
+    let at-start = at-read .before .before .before .before .before in
+    text-reported (at-start .args .text .now) (at-start .args .tree .now) (at-start .args .work .now) (at-start .args .score .now)
+    (at-start .args .line .now) _ (at-read .read .result) (at-read .read .ensures) _ _ _ _ (at-if1 .if1 .left)
+    (at-sheet .compose-sheet .ensures)
 
 pub compose-spec : {M : Type 1} → statement M
 compose-spec =
