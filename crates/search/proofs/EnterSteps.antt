@@ -33,7 +33,7 @@ use Rattle.search.specs.BarLaws.{before-low}
 pub product-few : {q l e : ℕ} → q ≤ 16 → l ≤ 84 → e ≤ 32 → (q * l ≤ 1344) × (q * l * e ≤ 43008)
 product-few {q} {l} {e} hq hl he = let first : q * l ≤ 1344 = mul-le-mul hq hl in (first, mul-le-mul first he)
 
-slots-few : (s : Sheet) → GoodRules (s .grammar) → GoodOnsets (s .playing) → slots s ≤ 172032
+pub slots-few : (s : Sheet) → GoodRules (s .grammar) → GoodOnsets (s .playing) → slots s ≤ 172032
 slots-few s rules onsets =
     let most = product-few {q = s .grammar .nonterminals} {l = lengths s} {e = mostInBar (s .playing)} (rules .sixteen)
     (length-count-most (s .grammar .rules)) (most-in-bar-most (s .playing) onsets) in
