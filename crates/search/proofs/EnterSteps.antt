@@ -1,4 +1,6 @@
--- Entering a bar: its record, the item over it, and what is asked of the rows.
+-- Entering a bar: its record (`enter-bar`), the item over it (`bar-item`), and what is asked of the rows. The products of the sheet's
+-- numbers are small (`product-few`, `slots-few`). From an idle carry state a bar has no tree (`pass-idle`), from any other its own row
+-- (`pass-rooted`).
 use Prim.Native.Nat.{ℕ, _+_, _*_, _/_, _%_, _≤_, _<_}
 use mathlib.Core.Path.{_≡_, refl, sym, ap, subst, _∙_}
 use mathlib.Core.List.{List}

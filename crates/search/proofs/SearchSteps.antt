@@ -1,4 +1,6 @@
--- The steps of `parse` and `least_tree`: the table cleared, what the least total tells, and the cells of the work slice.
+-- The steps of `parse` and `least_tree`. A cleared table claims nothing (`parse-forward`), and the tree that is found fits both slices and
+-- is copied (`found-fits`, `found-copied`). The product that `row_cells` makes is the number of the rows' cells (`product-is`), the work
+-- slice has them (`cells-fit`), and at the end all required cells are cleared (`searched`).
 use Prim.Native.Nat.{ℕ, _+_, _-_, _*_, _/_, _≤_, _<_}
 use mathlib.Core.Path.{_≡_, refl, sym, ap, subst, _∙_}
 use mathlib.Core.List.{List, [], _∷_, _++_}
@@ -31,7 +33,8 @@ use Rattle.rows.specs.OnsetLaws.{largest-le}
 use Rattle.filling.specs.Order.{ByArity}
 use Rattle.search.specs.declared.Found.{Found}
 use Rattle.search.specs.declared.Found.the-variants.{Tree}
-use Rattle.search.specs.Search.{barsTo, ForwardEntry, Settled, FoundIn, ParseEntry, FoundAs, rowCells, RowCellsEntry, SearchEntry, Searched}
+use Rattle.search.specs.Search.{barsTo, ForwardEntry, Settled, FoundIn, ParseEntry, FoundAs}
+use Rattle.search.specs.Search.{rowCells, RowCellsEntry, SearchEntry, Searched}
 use Rattle.search.proofs.EnterSteps.{product-few, slots-few}
 
 module _ {s : Sheet} {plan us rows tree : List ℕ} {start count : ℕ} (h : ParseEntry s plan us rows tree start count) where
