@@ -1,4 +1,6 @@
--- The steps of `passed` and `behind`: what the parts behind an item total, by the carry state that they are entered with.
+-- The steps of `passed` and `behind`: what the parts behind an item total, by the carry state that they are entered with. An idle one is
+-- passed by no least list (`passed-idle`), any other is told by the vector over the parts (`passed-parts`), and the four are the vector
+-- (`behind-four`).
 use Prim.Native.Nat.{ℕ, zero, suc, _+_, _≤_, _<_}
 use mathlib.Core.Path.{_≡_, sym, ap, subst, _∙_}
 use mathlib.Core.List.{List, [], _∷_}

@@ -1,4 +1,5 @@
--- The steps of `build`: the byte of the rule chosen, and then a leaf or the rule's parts.
+-- The steps of `build`. The least cell names the rule (`build-chosen`). A leaf is built by its byte alone (`built-leaf`), a division by its
+-- byte and its parts (`build-parts-entry`, `built-division`), which are shorter (`parts-shorter`).
 use Prim.Native.Nat.{ℕ, _+_, _*_, _%_, _≤_, _<_}
 use mathlib.Core.Path.{_≡_, refl, sym, ap, _∙_}
 use mathlib.Core.List.{List, [], _∷_}

@@ -1,4 +1,6 @@
--- The steps of `build_parts`: the parts of a division from left to right.
+-- The steps of `build_parts`: the parts of a division from left to right. `InParts` is the loop's invariant: it begins with no part
+-- (`in-parts-none`), goes on by a part (`in-parts-more`) and ends with all (`in-parts-all`). A part is built with its row (`part-entry`)
+-- and the vector behind it (`part-behind`).
 use Prim.Native.Nat.{ℕ, _+_, _*_, _≤_, _<_}
 use mathlib.Core.Path.{_≡_, refl, ap, subst, _∙_}
 use mathlib.Core.List.{List, [], _∷_}

@@ -1,4 +1,6 @@
--- The steps of `price_of` and `price_sheet`: how far the list was read decides whether it is a tree.
+-- The steps of `price_of` and `price_sheet`: how far the list was read decides whether it is a tree (`not-read`, `rules-left`,
+-- `onsets-left`, `tree-answer`). The bars are intervals in a row (`bars-entry`), and what is read of them is what `price_of` asks for
+-- (`bars-walked`).
 use Prim.Native.Nat.{ℕ, zero, suc, _+_, _*_, _≤_, _<_}
 use mathlib.Core.Path.{_≡_, refl, sym, ap, _∙_}
 use mathlib.Core.List.{List, [], _∷_}

@@ -1,4 +1,5 @@
--- The steps of `read_row`: what is read so far of intervals in a row.
+-- The steps of `read_row`: what is read so far of intervals in a row. `InRow` is the loop's invariant: it begins with none (`row-none`),
+-- goes on by an interval (`row-more`) or stops where one has no tree (`row-stuck`), and ends with all (`row-all`).
 use Prim.Native.Nat.{ℕ, suc, _+_, _*_, _≤_, _<_}
 use mathlib.Core.Path.{_≡_, refl, sym, ap, subst, _∙_}
 use mathlib.Core.List.{List, [], _∷_, _++_}

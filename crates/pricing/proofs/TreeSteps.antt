@@ -1,4 +1,5 @@
--- The steps of `read_tree`: the list at its end, a rule that is refused, a leaf, a division and its parts.
+-- The steps of `read_tree`: the list at its end (`list-ends`), a rule that is refused (`rule-refused`), a leaf (`leaf-walked`), a division
+-- and its parts (`parts-walked`), which are shorter (`parts-fall`).
 use Prim.Native.Nat.{ℕ, _+_, _-_, _*_, _/_, _≤_, _<_}
 use mathlib.Core.Path.{_≡_, refl, sym, ap, subst, _∙_}
 use mathlib.Core.List.{List, [], _∷_, map}

@@ -1,4 +1,6 @@
--- The steps of `before` and `backward`: the vectors from the last bar to the first.
+-- The steps of `before` and `backward`: the vectors from the last bar to the first. Each cell of `before` is the least sum of a row and the
+-- vector behind the bar (`before-cell`). `Backward` is the invariant of `backward`: it begins behind the last bar (`backward-none`) and
+-- goes on by a bar (`backward-more`).
 use Prim.Native.Nat.{ℕ, _+_, _-_, _*_, _/_, _≤_, _<_}
 use mathlib.Core.Path.{_≡_, refl, sym, ap, subst, _∙_}
 use mathlib.Core.List.{List, [], _∷_}

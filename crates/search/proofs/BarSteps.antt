@@ -1,4 +1,5 @@
--- The steps of `build_bars`: the tree from the first bar to the last.
+-- The steps of `build_bars`: the tree from the first bar to the last. `InBars` is the loop's invariant: it begins where the settled bars
+-- end (`in-bars-none`), goes on by a bar that is built (`in-bars-more`), and ends with all of them settled (`in-bars-all`).
 use Prim.Native.Nat.{ℕ, _+_, _*_, _≤_, _<_}
 use mathlib.Core.Path.{_≡_, sym, ap, subst, _∙_}
 use mathlib.Core.List.{List, [], _∷_}

@@ -1,4 +1,6 @@
--- Entering a bar: its record, the item over it, and what is asked of the rows.
+-- Entering a bar: its record (`enter-bar`), the item over it (`bar-item`), and what is asked of the rows. The products of the sheet's
+-- numbers are small (`product-few`, `slots-few`). From an idle carry state a bar has no tree (`pass-idle`), from any other its own row
+-- (`pass-rooted`).
 use Prim.Native.Nat.{ℕ, _+_, _*_, _/_, _%_, _≤_, _<_}
 use mathlib.Core.Path.{_≡_, refl, sym, ap, subst, _∙_}
 use mathlib.Core.List.{List}
@@ -33,7 +35,7 @@ use Rattle.search.specs.BarLaws.{before-low}
 pub product-few : {q l e : ℕ} → q ≤ 16 → l ≤ 84 → e ≤ 32 → (q * l ≤ 1344) × (q * l * e ≤ 43008)
 product-few {q} {l} {e} hq hl he = let first : q * l ≤ 1344 = mul-le-mul hq hl in (first, mul-le-mul first he)
 
-slots-few : (s : Sheet) → GoodRules (s .grammar) → GoodOnsets (s .playing) → slots s ≤ 172032
+pub slots-few : (s : Sheet) → GoodRules (s .grammar) → GoodOnsets (s .playing) → slots s ≤ 172032
 slots-few s rules onsets =
     let most = product-few {q = s .grammar .nonterminals} {l = lengths s} {e = mostInBar (s .playing)} (rules .sixteen)
     (length-count-most (s .grammar .rules)) (most-in-bar-most (s .playing) onsets) in

@@ -1,4 +1,6 @@
--- The steps of `pass` and `forward`: a bar's rows by carry state, and the bars from the first to the last.
+-- The steps of `pass` and `forward`: a bar's rows by carry state, and the bars from the first to the last. `Passing` is the invariant of
+-- `pass`: it begins with no row (`passing-none`), goes on by a row (`passing-more`) and ends with the bar passed (`passing-all`). A bar
+-- that is passed is one more of which `forward` has the rows (`forward-more`).
 use Prim.Native.Nat.{ℕ, _+_, _*_, _/_, _≤_, _<_, min}
 use mathlib.Core.Path.{_≡_, refl, sym, ap, subst, _∙_}
 use mathlib.Core.List.{List}

@@ -1,4 +1,6 @@
--- The steps of `parse` and `least_tree`: the table cleared, what the least total tells, and the cells of the work slice.
+-- The steps of `parse` and `least_tree`. A cleared table claims nothing (`parse-forward`), and the tree that is found fits both slices and
+-- is copied (`found-fits`, `found-copied`). The product that `row_cells` makes is the number of the rows' cells (`product-is`), the work
+-- slice has them (`cells-fit`), and at the end all required cells are cleared (`searched`).
 use Prim.Native.Nat.{ℕ, _+_, _-_, _*_, _/_, _≤_, _<_}
 use mathlib.Core.Path.{_≡_, refl, sym, ap, subst, _∙_}
 use mathlib.Core.List.{List, [], _∷_, _++_}
@@ -31,8 +33,9 @@ use Rattle.rows.specs.OnsetLaws.{largest-le}
 use Rattle.filling.specs.Order.{ByArity}
 use Rattle.search.specs.declared.Found.{Found}
 use Rattle.search.specs.declared.Found.the-variants.{Tree}
-use Rattle.search.specs.Search.{barsTo, ForwardEntry, Settled, FoundIn, ParseEntry, FoundAs, SearchEntry, Searched}
-use Rattle.search.proofs.EnterSteps.{product-few}
+use Rattle.search.specs.Search.{barsTo, ForwardEntry, Settled, FoundIn, ParseEntry, FoundAs}
+use Rattle.search.specs.Search.{rowCells, RowCellsEntry, SearchEntry, Searched}
+use Rattle.search.proofs.EnterSteps.{product-few, slots-few}
 
 module _ {s : Sheet} {plan us rows tree : List ℕ} {start count : ℕ} (h : ParseEntry s plan us rows tree start count) where
   pub bars-few : count ≤ 64
@@ -122,10 +125,19 @@ some-slots s rules onsets some =
     = mul-le-mul first (one-in-bar (s .playing) onsets some) in
     omega (arith, all)
 
-pub record Counted (s : Sheet) (q l e : ℕ) : Type 0 where
-  pub nonterminals : q ≡ s .grammar .nonterminals
-  pub lengths-are : l ≡ lengths s
-  pub most : e ≡ mostInBar (s .playing)
+-- ---- the cells of the rows
+
+module _ {s : Sheet} {plan : List ℕ} {most : ℕ} (h : RowCellsEntry s plan most) (q l : ℕ) (eq : q ≡ nonterminalsCell plan)
+    (el : l ≡ lengthsCell plan) where
+  -- the numbers of nonterminals, of lengths and of onsets in the fullest bar have small products
+  pub product-small : (q * l ≤ 1344) × (q * l * most ≤ 43008)
+  product-small =
+      product-few (omega (arith, eq, h .prepared .nonterminals, h .prepared .good .sixteen))
+      (omega (arith, el, h .prepared .lengths-are, length-count-most (s .grammar .rules)))
+      (omega (arith, h .most-is, most-in-bar-most (s .playing) (h .onsets)))
+
+  pub product-is : 16 * (q * l * most) ≡ rowCells s
+  product-is = rw (eq ∙ h .prepared .nonterminals, el ∙ h .prepared .lengths-are, h .most-is) (omega arith)
 
 module _ {s : Sheet} {grammar : GrammarTable} {playing : PlayingTable} {tree work : List ℕ}
     (h : SearchEntry s grammar playing tree work) where
@@ -136,42 +148,29 @@ module _ {s : Sheet} {grammar : GrammarTable} {playing : PlayingTable} {tree wor
   unfolding playingTable
   onsets-few = omega (arith, ap (λ (p : PlayingTable). p .count) (h .held .playing), h .held .good .onsets .most)
 
-  -- the numbers of nonterminals, of lengths and of onsets in the fullest bar
-  pub counted : (plan : List ℕ) → Prepared s plan → (q l e : ℕ) → q ≡ nonterminalsCell plan → l ≡ lengthsCell plan
-      → e ≡ mostInBar (s .playing) → Counted s q l e
-  counted plan p q l e eq el ee = record { nonterminals = eq ∙ p .nonterminals; lengths-are = el ∙ p .lengths-are; most = ee }
+  -- the rows are so many cells, and with 16 more a bar they are those that are required
+  pub cells-few : rowCells s ≤ 688128
+  cells-few = omega (arith, slots-few s (h .held .good .rules) (h .held .good .onsets))
 
-  module _ (q l e : ℕ) (counts : Counted s q l e) where
-    pub product-small : (q * l ≤ 1344) × (q * l * e ≤ 43008)
-    product-small =
-        product-few (omega (arith, counts .nonterminals, h .held .good .rules .sixteen))
-        (omega (arith, counts .lengths-are, length-count-most (s .grammar .rules)))
-        (omega (arith, counts .most, most-in-bar-most (s .playing) (h .held .good .onsets)))
+  all-cells : rowCells s + 16 * s .playing .bars ≡ workCells s
+  unfolding workCells
+  all-cells = omega arith
 
-    product-is : q * l * e ≡ s .grammar .nonterminals * lengths s * mostInBar (s .playing)
-    product-is = rw (counts .nonterminals, counts .lengths-are, counts .most) refl
-
-    -- so many cells hold the rows, and so many are required
-    module _ (cells : ℕ) (ec : cells ≡ 16 * (q * l * e)) where
-      pub cells-are : cells ≡ 4 * slots s
-      cells-are = omega (arith, product-is, ec)
-
-      pub all-cells : cells + 16 * s .playing .bars ≡ workCells s
-      unfolding workCells
-      all-cells = omega (arith, product-is, ec)
-
-      pub cells-fit : cells ≤ length work
-      cells-fit = omega (arith, all-cells, h .work-size)
+  pub cells-fit : {cells : ℕ} → cells ≡ rowCells s → cells ≤ length work
+  cells-fit ec = omega (arith, ec, all-cells, h .work-size)
 
   pub bars-are : playing .bars ≡ s .playing .bars
   unfolding playingTable
   bars-are = ap (λ (p : PlayingTable). p .bars) (h .held .playing)
 
+  pub cells-all : {cells : ℕ} → cells ≡ rowCells s → cells + 16 * playing .bars ≡ workCells s
+  cells-all ec = omega (arith, ec, bars-are, all-cells)
+
   pub start-is : grammar .start ≡ s .grammar .start
   unfolding grammarTable
   start-is = ap (λ (g : GrammarTable). g .start) (h .held .grammar)
 
-  pub parse-entry : (plan us : List ℕ) (cells start count : ℕ) → Prepared s plan → us ≡ unitCells (s .playing) → cells ≡ 4 * slots s
+  pub parse-entry : (plan us : List ℕ) (cells start count : ℕ) → Prepared s plan → us ≡ unitCells (s .playing) → cells ≡ rowCells s
       → cells ≤ length work → start ≡ grammar .start → count ≡ playing .bars → ParseEntry s plan us (take cells work) tree start count
   parse-entry plan us cells start count ep eu ec fit es eb =
       record {

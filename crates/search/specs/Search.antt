@@ -8,7 +8,7 @@ use Rattle.slices.specs.Over.{over}
 use Rattle.sheet.specs.declared.table.GrammarTable.{GrammarTable}
 use Rattle.sheet.specs.declared.table.PlayingTable.{PlayingTable}
 use Rattle.sheet.specs.Sheet.{Sheet, barUnits}
-use Rattle.sheet.specs.Good.{GoodRules}
+use Rattle.sheet.specs.Good.{GoodRules, GoodOnsets}
 use Rattle.sheet.specs.Accepted.{SheetHeld}
 use Rattle.derivations.specs.Derivation.{Item, Price}
 use Rattle.derivations.specs.Minima.{lowest, only}
@@ -18,7 +18,7 @@ use Rattle.trees.specs.ValidTrees.{row, totalOf}
 use Rattle.trees.specs.Instance.{instanceOf}
 use Rattle.trees.specs.LeastTotal.{NONE, carries, cellOf, leastTotal}
 use Rattle.trees.specs.Found.{FirstTree}
-use Rattle.sizes.specs.Sizes.{treeBytes, workCells}
+use Rattle.sizes.specs.Sizes.{mostInBar, treeBytes, workCells}
 use Rattle.expansions.specs.Tables.{UnitsHeld}
 use Rattle.expansions.specs.Items.{firstAt}
 use Rattle.plan.specs.Plan.{Prepared}
@@ -217,6 +217,16 @@ FoundAs s tree after (Tree n total) =
     (bytes : List ℕ) × (R : ℕ) × (D : ℕ) × FirstTree s bytes R D × (n ≡ length bytes) × (after ≡ over bytes tree)
     × (total ≡ totalOf s R D)
 
+-- the cells of the rows, four a slot: 16 × Q × L × E
+abbrev pub rowCells : Sheet → ℕ
+rowCells s = 4 * slots s
+
+-- the sheet's plan, and the largest number of onsets in a bar
+pub record RowCellsEntry (s : Sheet) (plan : List ℕ) (most : ℕ) : Type 0 where
+  pub prepared : Prepared s plan
+  pub onsets : GoodOnsets (s .playing)
+  pub most-is : most ≡ mostInBar (s .playing)
+
 -- rows of the required number, whatever they hold, and a tree slice of the required length
 pub record ParseEntry (s : Sheet) (plan units rows tree : List ℕ) (start count : ℕ) : Type 0 where
   pub prepared : Prepared s plan
@@ -224,7 +234,7 @@ pub record ParseEntry (s : Sheet) (plan units rows tree : List ℕ) (start count
   pub start-is : start ≡ s .grammar .start
   pub count-is : count ≡ s .playing .bars
   pub some-slot : 0 < slots s
-  pub rows-size : length rows ≡ 4 * slots s
+  pub rows-size : length rows ≡ rowCells s
   pub tree-size : treeBytes s ≤ length tree
 
 pub record SearchEntry (s : Sheet) (grammar : GrammarTable) (playing : PlayingTable) (tree work : List ℕ) : Type 0 where

@@ -12,7 +12,8 @@ ghost use Rattle.plan.specs.Plan.{Prepared};
 ghost use Rattle.rows.specs.Vectors.{Low};
 ghost use Rattle.search.specs.Search.{barOf, EnterEntry, PassEntry, Rooted, RootsTo, PassedBar, Closed};
 ghost use Rattle.search.specs.Search.{BeforeEntry, BeforeAs, BackEntry, VectorsFrom, BarsBuildEntry, SettledAs, SettleEntry};
-ghost use Rattle.search.specs.Search.{ForwardEntry, FoundIn, ParseEntry, FoundAs, SearchEntry, Searched};
+ghost use Rattle.search.specs.Search.{ForwardEntry, FoundIn, ParseEntry, FoundAs};
+ghost use Rattle.search.specs.Search.{rowCells, RowCellsEntry, SearchEntry, Searched};
 use building::build;
 use expansions::pack_units;
 use filling::by_arity;
@@ -388,6 +389,14 @@ fn parse<'a>(
     }
 }
 
+// How many cells the rows take, four a slot, where no bar has more than `most` onsets.
+fn row_cells(plan: &[u64; 3055], most: usize) -> usize
+    requires { ⌜ ((s : Sheet) × RowCellsEntry s (now plan) most) ⌝ }
+    ensures { λ n. ⌜ ((s : Sheet) → RowCellsEntry s (now (plan .entry)) most → n ≡ rowCells s) ⌝ }
+{
+    16 * (nonterminals(plan) * length_count(plan) * most)
+}
+
 // Finds the first least tree of a sheet and writes it to the front of the tree slice. The required cells of the work slice are 0 at the
 // end; what they hold at the start does not matter.
 pub fn least_tree(
@@ -406,8 +415,7 @@ pub fn least_tree(
     let units = pack_units(playing);
     let start = grammar.start as usize;
     let count = playing.bars as usize;
-    let most = most_in_bar(playing);
-    let cells = 16 * (nonterminals(&plan) * length_count(&plan) * most);
+    let cells = row_cells(&plan, most_in_bar(playing));
     let found = parse(&plan, &units, &mut work[..cells], tree, start, count);
     clear(work, cells + 16 * count);
     found

@@ -15,37 +15,38 @@ idle-requires c κs =
 
 returns : tie.Need-returns
 returns c =
-    let start = c .before .before .before in
-    let idle = c .before .idle in
+    let at-idle = c .before in
+    let at-start = at-idle .before .before in
     let taken = c .if1 .taken in
-    λ s h. passed-idle h (start .pre .0) (idle .ensures s (h .parts .in-bar .prepared) taken)
+    λ s h. passed-idle h (at-start .pre .0) (at-idle .idle .ensures s (h .parts .in-bar .prepared) taken)
 
 parts-requires : tie.Need-parts-requires
 parts-requires c κs =
-    let start = c .before .before .before .before in
-    let s = start .pre .1 .0 in
-    let h = start .pre .1 .1 in
+    let at-start = c .before .before .before .before in
+    let s = at-start .pre .1 .0 in
+    let h = at-start .pre .1 .1 in
     (s, h .parts)
 
 dot-requires : tie.Need-dot-requires
 dot-requires c κs =
-    let start = c .before .before .before .before .before .before .before in
-    let s = start .pre .1 .0 in
-    let h = start .pre .1 .1 in
-    (parted-low (h .parts .divides .rule) (c .before .before .parts .ensures s (h .parts)), h .low)
+    let at-parts = c .before .before in
+    let at-start = at-parts .before .before .before .before .before in
+    let s = at-start .pre .1 .0 in
+    let h = at-start .pre .1 .1 in
+    (parted-low (h .parts .divides .rule) (at-parts .parts .ensures s (h .parts)), h .low)
 
 same-length : tie.Need-same-length
 same-length c =
-    let start = c .before .before .before .before .before .before .before .before in
-    let s = start .pre .1 .0 in
-    let h = start .pre .1 .1 in
-    c .before .before .before .parts .ensures s (h .parts) .sound .size ∙ sym (h .parts .sound .size)
+    let at-parts = c .before .before .before in
+    let at-start = at-parts .before .before .before .before .before in
+    let s = at-start .pre .1 .0 in
+    let h = at-start .pre .1 .1 in
+    at-parts .parts .ensures s (h .parts) .sound .size ∙ sym (h .parts .sound .size)
 
 returns-2 : tie.Need-returns-2
 returns-2 c =
-    let parts = c .before .before .before .parts in
-    let dot = c .dot in
-    λ s h. passed-parts h (parts .ensures s (h .parts)) (dot .ensures)
+    let at-parts = c .before .before .before in
+    λ s h. passed-parts h (at-parts .parts .ensures s (h .parts)) (c .dot .ensures)
 
 pub passed-spec : {M : Type 1} → statement M
 passed-spec =

@@ -1,4 +1,5 @@
--- `price_of` meets its contract, by how far the list was read. Assumes nothing.
+-- `price_of` meets its contract, by how far the list was read: not at all, not to its end, with onsets carried out, or as a tree, whose
+-- total fits (`total-fits`). Assumes nothing.
 use mathlib.Core.Path.{sym, ap, subst, _∙_}
 use native.Mathlib.Omega.{arith}
 use Rattle.pricing.specs.Pricing.{pricedOf}
@@ -20,56 +21,59 @@ enum-known-w c = search needs
 refused-requires-2 : tie.Need-refused-requires-2
 refused-requires-2 c κs = search needs
 
+-- the list is not read to its end
 returns : tie.Need-returns
 returns c =
-    let w = c .before .before .before .before .w in
-    let if1 = c .before .if1 in
-    let refused2 = c .refused2 in
-    λ s list h n a. refused2 .ensures ∙ ap pricedOf (sym (rules-left s list _ (subst (BarsWalked s list) (w .given .1) h)
-    (λ e. if1 .taken (e ∙ n))))
+    let at-if1 = c .before in
+    let at-upto = at-if1 .before .before .before in
+    λ s list h n a. c .refused2 .ensures ∙ ap pricedOf (sym (rules-left s list _ (subst (BarsWalked s list) (at-upto .w .given .1) h)
+    (λ e. at-if1 .if1 .taken (e ∙ n))))
 
 refused-requires-3 : tie.Need-refused-requires-3
 refused-requires-3 c κs = search needs
 
+-- onsets are carried out
 returns-2 : tie.Need-returns-2
 returns-2 c =
-    let w = c .before .before .before .before .before .before .w in
-    let if1 = c .before .before .before .if1 in
-    let if2 = c .before .if2 in
-    let refused3 = c .refused3 in
-    λ s list h n a. refused3 .ensures ∙ ap pricedOf (sym (onsets-left s list _ (subst (BarsWalked s list) (w .given .1) h)
-    (if1 .left ∙ sym n) (if2 .taken)))
+    let at-if2 = c .before in
+    let at-if1 = at-if2 .before .before in
+    let at-upto = at-if1 .before .before .before in
+    λ s list h n a. c .refused3 .ensures ∙ ap pricedOf (sym (onsets-left s list _ (subst (BarsWalked s list) (at-upto .w .given .1) h)
+    (at-if1 .if1 .left ∙ sym n) (at-if2 .if2 .taken)))
 
 mul-t8 : tie.Need-mul-t8
 mul-t8 c =
-    let start = c .before .before .before .before .before .before .before .before in
-    let w = c .before .before .before .before .before .before .w in
-    let q = start .pre in
-    let t = total-fits (q .0) (q .1) _ (subst (BarsWalked (q .0) (q .1)) (w .given .1) (q .2 .0)) (start .args .multiplier)
+    let at-upto = c .before .before .before .before .before .before in
+    let at-start = at-upto .before .before in
+    let q = at-start .pre in
+    let t = total-fits (q .0) (q .1) _ (subst (BarsWalked (q .0) (q .1)) (at-upto .w .given .1) (q .2 .0)) (at-start .args .multiplier)
     (search needs) in
     record { fits = omega arith }
 
 add-t9 : tie.Need-add-t9
 add-t9 c =
-    let start = c .before .before .before .before .before .before .before .before .before in
-    let w = c .before .before .before .before .before .before .before .w in
-    let q = start .pre in
-    let t = total-fits (q .0) (q .1) _ (subst (BarsWalked (q .0) (q .1)) (w .given .1) (q .2 .0)) (start .args .multiplier)
+    let at-upto = c .before .before .before .before .before .before .before in
+    let at-start = at-upto .before .before in
+    let q = at-start .pre in
+    let t = total-fits (q .0) (q .1) _ (subst (BarsWalked (q .0) (q .1)) (at-upto .w .given .1) (q .2 .0)) (at-start .args .multiplier)
     (search needs) in
     record { fits = omega arith }
 
+-- the list is not read
 returns-3 : tie.Need-returns-3
 returns-3 c =
     let enum-told = c .before .enum-told in
     let refused = c .refused in
     λ s list h n a. refused .ensures ∙ ap pricedOf (sym (not-read s list (subst (BarsWalked s list) (enum-told .given .1) h)))
 
+-- it is a tree
 returns-4 : tie.Need-returns-4
 returns-4 c =
-    let w = c .before .before .before .before .before .before .before .w in
-    let if1 = c .before .before .before .before .if1 in
-    let if2 = c .before .before .if2 in
-    λ s list h n a. tree-answer s list _ (subst (BarsWalked s list) (w .given .1) h) (if1 .left ∙ sym n) (if2 .left) _ _ n a
+    let at-if2 = c .before .before in
+    let at-if1 = at-if2 .before .before in
+    let at-upto = at-if1 .before .before .before in
+    λ s list h n a. tree-answer s list _ (subst (BarsWalked s list) (at-upto .w .given .1) h) (at-if1 .if1 .left ∙ sym n)
+    (at-if2 .if2 .left) _ _ n a
 
 pub price-of-spec : {M : Type 1} → statement M
 price-of-spec =

@@ -1,10 +1,68 @@
--- `before` meets its contract: the rows of a bar are low, so their sums with a low vector fit. Assumes nothing.
-use Prim.Native.Nat.{_+_, _*_}
+-- `before` meets its contract: the rows of a bar are low, so their sums with a low vector fit. Each cell is the least of a row's sums
+-- (`Least`). Assumes nothing.
+use Prim.Native.Nat.{ℕ, _+_, _*_, _/_}
+use mathlib.Core.Path.{_≡_}
 use native.Mathlib.Omega.{arith}
 use borrow.Author.Needs.{needs}
+use lib.ListN.{getD}
+use Rattle.sheet.specs.Sheet.{Sheet}
+use Rattle.derivations.specs.Minima.{lowest}
+use Rattle.trees.specs.LeastTotal.{NONE, carries}
+use Rattle.rows.specs.Memo.{rowAt}
+use Rattle.search.specs.Search.{BeforeEntry}
 use Rattle.search.proofs.BackSteps.{before-asked, before-cell, before-all}
 use Rattle.search.proofs.before.Statement.{statement}
 use Rattle.search.proofs.before.Tie as tie
+
+-- ---- places
+
+abbrev start-of : tie.After-dot → tie.Start
+start-of c = c .before .before .before .before
+
+abbrev first-place : tie.After-dot2 → tie.After-dot
+first-place c = c .before .before .before
+
+abbrev second-place : tie.After-dot3 → tie.After-dot
+second-place c = first-place (c .before .before .before)
+
+abbrev third-place : tie.After-dot4 → tie.After-dot
+third-place c = second-place (c .before .before .before)
+
+-- ---- each cell, of a sheet s where the rows of the bars before bar e are stored
+
+abbrev Asked : tie.Start → Sheet → ℕ → Type 0
+Asked c s e = BeforeEntry s (c .args .roots .now) e (c .args .b) (c .args .v)
+
+-- d is the least sum of v with the bar's row from carry state m
+abbrev Least : tie.Start → (m d : ℕ) → Type 0
+Least c m d =
+    let a = c .args in
+    d ≡ lowest NONE (λ x. getD (rowAt (a .roots .now) (4 * (4 * a .b + m))) x 0 / 64 + getD (a .v) x 0) carries
+
+zeroth : (c : tie.After-dot) (s : Sheet) (e : ℕ) → Asked (start-of c) s e → Least (start-of c) 0 (c .dot .result)
+zeroth c s e h =
+    before-cell h 0 (omega arith) (16 * start-of c .args .b) (omega arith) (c .before .before .load .ensures) (c .before .totals .ensures)
+    (c .dot .ensures)
+
+first : (c : tie.After-dot2) (s : Sheet) (e : ℕ) → Asked (start-of (first-place c)) s e
+    → Least (start-of (first-place c)) 1 (c .dot2 .result)
+first c s e h =
+    before-cell h 1 (omega arith) (16 * start-of (first-place c) .args .b + 4) (omega arith) (c .before .before .load2 .ensures)
+    (c .before .totals2 .ensures) (c .dot2 .ensures)
+
+second : (c : tie.After-dot3) (s : Sheet) (e : ℕ) → Asked (start-of (second-place c)) s e
+    → Least (start-of (second-place c)) 2 (c .dot3 .result)
+second c s e h =
+    before-cell h 2 (omega arith) (16 * start-of (second-place c) .args .b + 8) (omega arith) (c .before .before .load3 .ensures)
+    (c .before .totals3 .ensures) (c .dot3 .ensures)
+
+third : (c : tie.After-dot4) (s : Sheet) (e : ℕ) → Asked (start-of (third-place c)) s e
+    → Least (start-of (third-place c)) 3 (c .dot4 .result)
+third c s e h =
+    before-cell h 3 (omega arith) (16 * start-of (third-place c) .args .b + 12) (omega arith) (c .before .before .load4 .ensures)
+    (c .before .totals4 .ensures) (c .dot4 .ensures)
+
+-- ---- the needs
 
 mul-at : tie.Need-mul-at
 mul-at c = search needs
@@ -17,11 +75,9 @@ totals-requires c κs = search needs
 
 dot-requires : tie.Need-dot-requires
 dot-requires c κs =
-    let start = c .before .before .before in
-    let load = c .before .load in
-    let totals = c .totals in
-    let h = start .pre .2 in
-    before-asked h 0 (omega arith) (16 * start .args .b) (omega arith) (load .ensures) (totals .ensures)
+    let at-load = c .before in
+    let at-start = at-load .before .before in
+    before-asked (at-start .pre .2) 0 (omega arith) (16 * at-start .args .b) (omega arith) (at-load .load .ensures) (c .totals .ensures)
 
 add-load : tie.Need-add-load
 add-load c = search needs
@@ -34,11 +90,10 @@ totals-requires-2 c κs = search needs
 
 dot-requires-2 : tie.Need-dot-requires-2
 dot-requires-2 c κs =
-    let start = c .before .before .before .before .before .before in
-    let load2 = c .before .load2 in
-    let totals2 = c .totals2 in
-    let h = start .pre .2 in
-    before-asked h 1 (omega arith) (16 * start .args .b + 4) (omega arith) (load2 .ensures) (totals2 .ensures)
+    let at-load = c .before in
+    let at-start = start-of (at-load .before) in
+    before-asked (at-start .pre .2) 1 (omega arith) (16 * at-start .args .b + 4) (omega arith) (at-load .load2 .ensures)
+    (c .totals2 .ensures)
 
 add-load-2 : tie.Need-add-load-2
 add-load-2 c = search needs
@@ -51,11 +106,10 @@ totals-requires-3 c κs = search needs
 
 dot-requires-3 : tie.Need-dot-requires-3
 dot-requires-3 c κs =
-    let start = c .before .before .before .before .before .before .before .before .before in
-    let load3 = c .before .load3 in
-    let totals3 = c .totals3 in
-    let h = start .pre .2 in
-    before-asked h 2 (omega arith) (16 * start .args .b + 8) (omega arith) (load3 .ensures) (totals3 .ensures)
+    let at-load = c .before in
+    let at-start = start-of (first-place (at-load .before)) in
+    before-asked (at-start .pre .2) 2 (omega arith) (16 * at-start .args .b + 8) (omega arith) (at-load .load3 .ensures)
+    (c .totals3 .ensures)
 
 add-load-3 : tie.Need-add-load-3
 add-load-3 c = search needs
@@ -68,34 +122,17 @@ totals-requires-4 c κs = search needs
 
 dot-requires-4 : tie.Need-dot-requires-4
 dot-requires-4 c κs =
-    let start = c .before .before .before .before .before .before .before .before .before .before .before .before in
-    let load4 = c .before .load4 in
-    let totals4 = c .totals4 in
-    let h = start .pre .2 in
-    before-asked h 3 (omega arith) (16 * start .args .b + 12) (omega arith) (load4 .ensures) (totals4 .ensures)
+    let at-load = c .before in
+    let at-start = start-of (second-place (at-load .before)) in
+    before-asked (at-start .pre .2) 3 (omega arith) (16 * at-start .args .b + 12) (omega arith) (at-load .load4 .ensures)
+    (c .totals4 .ensures)
 
+-- the four are the vector
 returns : tie.Need-returns
 returns c =
-    let start = c .before .before .before .before .before .before .before .before .before .before .before .before .before in
-    let load = c .before .before .before .before .before .before .before .before .before .before .before .load in
-    let totals = c .before .before .before .before .before .before .before .before .before .before .totals in
-    let dot = c .before .before .before .before .before .before .before .before .before .dot in
-    let load2 = c .before .before .before .before .before .before .before .before .load2 in
-    let totals2 = c .before .before .before .before .before .before .before .totals2 in
-    let dot2 = c .before .before .before .before .before .before .dot2 in
-    let load3 = c .before .before .before .before .before .load3 in
-    let totals3 = c .before .before .before .before .totals3 in
-    let dot3 = c .before .before .before .dot3 in
-    let load4 = c .before .before .load4 in
-    let totals4 = c .before .totals4 in
-    let dot4 = c .dot4 in
-    let b = start .args .b in
-    λ s e h.
-    let zeroth = before-cell h 0 (omega arith) (16 * b) (omega arith) (load .ensures) (totals .ensures) (dot .ensures) in
-    let first = before-cell h 1 (omega arith) (16 * b + 4) (omega arith) (load2 .ensures) (totals2 .ensures) (dot2 .ensures) in
-    let second = before-cell h 2 (omega arith) (16 * b + 8) (omega arith) (load3 .ensures) (totals3 .ensures) (dot3 .ensures) in
-    let third = before-cell h 3 (omega arith) (16 * b + 12) (omega arith) (load4 .ensures) (totals4 .ensures) (dot4 .ensures) in
-    before-all h zeroth first second third
+    let at-dot3 = c .before .before .before in
+    let at-dot2 = at-dot3 .before .before .before in
+    λ s e h. before-all h (zeroth (first-place at-dot2) s e h) (first at-dot2 s e h) (second at-dot3 s e h) (third c s e h)
 
 pub before-spec : {M : Type 1} → statement M
 before-spec =

@@ -1,4 +1,4 @@
--- `clear` meets its contract: the cells before i are 0. Assumes nothing.
+-- `clear` meets its contract. The invariant of the loop: the cells before i are 0, and the others are kept (`Table`). Assumes nothing.
 use borrow.Author.Needs.{needs}
 use Prim.Native.Nat.{_-_, _≤_}
 use mathlib.Core.Path.{_≡_, refl}

@@ -21,17 +21,14 @@ idle-requires-2 c κs = search needs
 idle-requires-3 : tie.Need-idle-requires-3
 idle-requires-3 c κs = search needs
 
+-- the other three carry states are idle
 returns-2 : tie.Need-returns-2
 returns-2 c =
-    let if1 = c .before .before .before .before .before .before .if1 in
-    let idle = c .before .before .before .before .before .idle in
-    let if2 = c .before .before .before .before .if2 in
-    let idle2 = c .before .before .before .idle2 in
-    let if3 = c .before .before .if3 in
-    let idle3 = c .before .idle3 in
-    let if4 = c .if4 in
-    λ s p _. closed-told (omega (arith, if1 .left)) (idle .ensures s p (if2 .taken)) (idle2 .ensures s p (if3 .taken))
-    (idle3 .ensures s p (if4 .taken))
+    let at-third = c .before in
+    let at-second = at-third .before .before in
+    let at-first = at-second .before .before in
+    λ s p _. closed-told (omega (arith, at-first .before .if1 .left)) (at-first .idle .ensures s p (at-second .before .if2 .taken))
+    (at-second .idle2 .ensures s p (at-third .before .if3 .taken)) (at-third .idle3 .ensures s p (c .if4 .taken))
 
 returns-3 : tie.Need-returns-3
 returns-3 c = λ s p f. absurd (false≢true f)

@@ -1,4 +1,5 @@
--- `enter` meets its contract. Assumes nothing.
+-- `enter` meets its contract: `first_behind`, asked from the first onset on, gives the first that is not before the bar, and the product of
+-- the shift fits. Assumes nothing.
 use native.Mathlib.Omega.{arith}
 use borrow.Author.Needs.{needs}
 use Rattle.search.proofs.EnterSteps.{enter-product, enter-from, enter-near, enter-bar}

@@ -1,26 +1,79 @@
--- `least_tree` meets its contract: the rows are the front of the work slice, and all required cells are cleared at the end. Assumes
--- nothing.
-use Prim.Native.Nat.{_+_, _*_}
-use mathlib.Core.Path.{refl, sym, ap, _∙_}
+-- `least_tree` meets its contract: the rows are the front of the work slice, so many cells as `row_cells` tells, and all required cells are
+-- cleared at the end. Assumes nothing.
+use Prim.Native.Nat.{ℕ, _+_, _*_, _≤_}
+use mathlib.Core.Path.{_≡_, refl, sym}
+use mathlib.Core.List.{List}
 use native.Mathlib.Omega.{arith}
-use lib.Seq.{length-take-le}
-use Rattle.search.proofs.SearchSteps.{rules-held, onsets-few, counted, product-small, cells-are, all-cells, cells-fit}
-use Rattle.search.proofs.SearchSteps.{bars-are, parse-entry, lent-length, searched}
 use borrow.Author.Needs.{needs}
+use lib.ListN.{length, take}
+use lib.Seq.{length-take-le}
+use Rattle.sheet.specs.Sheet.{Sheet}
+use Rattle.search.specs.Search.{rowCells, RowCellsEntry, ParseEntry, SearchEntry}
+use Rattle.search.proofs.SearchSteps.{rules-held, onsets-few, cells-few, cells-fit, cells-all, bars-are, parse-entry, lent-length}
+use Rattle.search.proofs.SearchSteps.{searched}
 use Rattle.search.proofs.least_tree.Statement.{statement}
 use Rattle.search.proofs.least_tree.Tie as tie
 
+-- a sheet of which the first least tree is asked for
+abbrev Asked : tie.Start → Sheet → Type 0
+Asked c s = let a = c .args in SearchEntry s (a .grammar) (a .playing) (a .tree .now) (a .work .now)
+
+-- ---- where the onsets of the fullest bar are counted
+
+abbrev units-place : tie.After-most-in-bar → tie.After-pack-units
+units-place c = c .before .before .before .before
+
+abbrev start-of : tie.After-most-in-bar → tie.Start
+start-of c = units-place c .before .before .before .before
+
+-- the cells of the rows may be counted
+counted : (c : tie.After-most-in-bar) (s : Sheet) → Asked (start-of c) s
+    → RowCellsEntry s (units-place c .before .prepare .result) (c .most-in-bar .result)
+counted c s h = record {
+  prepared = units-place c .before .prepare .ensures s (h .held .good .rules) (h .held .grammar);
+  onsets = h .held .good .onsets;
+  most-is = c .most-in-bar .ensures .1 (s .playing) (h .held .good .onsets) (h .held .playing);
+}
+
+-- ---- where the cells of the rows are counted
+
+abbrev start-place : tie.After-row-cells → tie.Start
+start-place c = start-of (c .before)
+
+abbrev cells-of : tie.After-row-cells → ℕ
+cells-of c = c .row-cells .result
+
+abbrev work-of : tie.After-row-cells → List ℕ
+work-of c = start-place c .args .work .now
+
+-- they are the sheet's, and the work slice has them
+cells-are : (c : tie.After-row-cells) (s : Sheet) → Asked (start-place c) s → cells-of c ≡ rowCells s
+cells-are c s h = c .row-cells .ensures s (counted (c .before) s h)
+
+fit : (c : tie.After-row-cells) (s : Sheet) → Asked (start-place c) s → cells-of c ≤ length (work-of c)
+fit c s h = cells-fit h (cells-are c s h)
+
+-- so the tree may be searched in them
+entry : (c : tie.After-row-cells) (s : Sheet) → Asked (start-place c) s → let at-units = units-place (c .before) in
+    let a = start-place c .args in
+    ParseEntry s (at-units .before .prepare .result) (at-units .pack-units .result) (take (cells-of c) (work-of c)) (a .tree .now)
+    (a .grammar .start) (a .playing .bars)
+entry c s h =
+    let units = units-place (c .before) .pack-units .ensures (s .playing) (h .held .good .onsets) (h .held .playing) in
+    parse-entry h _ _ (cells-of c) _ _ (counted (c .before) s h .prepared) units (cells-are c s h) (fit c s h) refl refl
+
+-- ---- where the rows come back
+
+abbrev cells-place : tie.After-parse → tie.After-row-cells
+cells-place c = c .before .before .before .before .before
+
+-- ---- the needs
+
 prepare-requires : tie.Need-prepare-requires
-prepare-requires c κs =
-    let start = c .before .before in
-    let h = start .pre .1 in
-    rules-held h
+prepare-requires c κs = rules-held (c .before .before .pre .1)
 
 pack-units-requires : tie.Need-pack-units-requires
-pack-units-requires c κs =
-    let start = c .before .before .before in
-    let h = start .pre .1 in
-    onsets-few h
+pack-units-requires c κs = onsets-few (c .before .before .before .pre .1)
 
 cast-start : tie.Need-cast-start
 cast-start c = search needs
@@ -30,158 +83,49 @@ cast-count c = search needs
 
 most-in-bar-requires : tie.Need-most-in-bar-requires
 most-in-bar-requires c κs =
-    let start = c .before .before .before .before .before .before in
-    let h = start .pre .1 in
-    onsets-few h
+    let at-prepare = c .before .before .before .before in
+    onsets-few (at-prepare .before .before .before .pre .1)
 
-nonterminals-requires : tie.Need-nonterminals-requires
-nonterminals-requires c κs = search needs
+row-cells-requires : tie.Need-row-cells-requires
+row-cells-requires c κs =
+    let at-start = start-of c in
+    (at-start .pre .0, counted c _ (at-start .pre .1))
 
-length-count-requires : tie.Need-length-count-requires
-length-count-requires c κs = search needs
-
-mul-cells : tie.Need-mul-cells
-mul-cells c =
-    let start = c .before .before .before .before .before .before .before .before .before .before .before in
-    let prepare = c .before .before .before .before .before .before .before .before .prepare in
-    let most-in-bar = c .before .before .before .before .most-in-bar in
-    let nonterminals = c .before .before .nonterminals in
-    let length-count = c .length-count in
-    let s = start .pre .0 in
-    let h = start .pre .1 in
-    let prepared = prepare .ensures s (h .held .good .rules) (h .held .grammar) in
-    let most = most-in-bar .ensures .1 (s .playing) (h .held .good .onsets) (h .held .playing) in
-    let counts = counted h _ prepared _ _ _ (nonterminals .ensures) (length-count .ensures) most in
-    let small = product-small h _ _ _ counts in
-    record { fits = omega (arith, small .0) }
-
-mul-cells-2 : tie.Need-mul-cells-2
-mul-cells-2 c =
-    let start = c .before .before .before .before .before .before .before .before .before .before .before in
-    let prepare = c .before .before .before .before .before .before .before .before .prepare in
-    let most-in-bar = c .before .before .before .before .most-in-bar in
-    let nonterminals = c .before .before .nonterminals in
-    let length-count = c .length-count in
-    let s = start .pre .0 in
-    let h = start .pre .1 in
-    let prepared = prepare .ensures s (h .held .good .rules) (h .held .grammar) in
-    let most = most-in-bar .ensures .1 (s .playing) (h .held .good .onsets) (h .held .playing) in
-    let counts = counted h _ prepared _ _ _ (nonterminals .ensures) (length-count .ensures) most in
-    let small = product-small h _ _ _ counts in
-    record { fits = omega (arith, small .1) }
-
-mul-cells-3 : tie.Need-mul-cells-3
-mul-cells-3 c =
-    let start = c .before .before .before .before .before .before .before .before .before .before .before in
-    let prepare = c .before .before .before .before .before .before .before .before .prepare in
-    let most-in-bar = c .before .before .before .before .most-in-bar in
-    let nonterminals = c .before .before .nonterminals in
-    let length-count = c .length-count in
-    let s = start .pre .0 in
-    let h = start .pre .1 in
-    let prepared = prepare .ensures s (h .held .good .rules) (h .held .grammar) in
-    let most = most-in-bar .ensures .1 (s .playing) (h .held .good .onsets) (h .held .playing) in
-    let counts = counted h _ prepared _ _ _ (nonterminals .ensures) (length-count .ensures) most in
-    let small = product-small h _ _ _ counts in
-    record { fits = omega (arith, small .1) }
-
+-- the front of the work slice is lent
 slice-relend-prefix-parse : tie.Need-slice-relend-prefix-parse
 slice-relend-prefix-parse c =
-    let start = c .before .before .before .before .before .before .before .before .before .before .before .before .before in
-    let prepare = c .before .before .before .before .before .before .before .before .before .before .prepare in
-    let most-in-bar = c .before .before .before .before .before .before .most-in-bar in
-    let nonterminals = c .before .before .before .before .nonterminals in
-    let length-count = c .before .before .length-count in
-    let s = start .pre .0 in
-    let h = start .pre .1 in
-    let prepared = prepare .ensures s (h .held .good .rules) (h .held .grammar) in
-    let most = most-in-bar .ensures .1 (s .playing) (h .held .good .onsets) (h .held .playing) in
-    let counts = counted h _ prepared _ _ _ (nonterminals .ensures) (length-count .ensures) most in
-    let cells = 16 * (nonterminals .result * length-count .result * most-in-bar .result) in
-    let fit = cells-fit h _ _ _ counts cells refl in
-    fit
+    let at-cells = c .before .before in
+    fit at-cells _ (start-place at-cells .pre .1)
 
 slice-aggregate-parse : tie.Need-slice-aggregate-parse
 slice-aggregate-parse c =
-    let start = c .before .before .before .before .before .before .before .before .before .before .before .before .before .before in
-    let prepare = c .before .before .before .before .before .before .before .before .before .before .before .prepare in
-    let most-in-bar = c .before .before .before .before .before .before .before .most-in-bar in
-    let nonterminals = c .before .before .before .before .before .nonterminals in
-    let length-count = c .before .before .before .length-count in
-    let s = start .pre .0 in
-    let h = start .pre .1 in
-    let a = start .args in
-    let prepared = prepare .ensures s (h .held .good .rules) (h .held .grammar) in
-    let most = most-in-bar .ensures .1 (s .playing) (h .held .good .onsets) (h .held .playing) in
-    let counts = counted h _ prepared _ _ _ (nonterminals .ensures) (length-count .ensures) most in
-    let cells = 16 * (nonterminals .result * length-count .result * most-in-bar .result) in
-    let fit = cells-fit h _ _ _ counts cells refl in
-    sym (length-take-le cells (a .work .now) fit)
+    let at-cells = c .before .before .before in
+    sym (length-take-le (cells-of at-cells) (work-of at-cells) (fit at-cells _ (start-place at-cells .pre .1)))
 
 parse-requires : tie.Need-parse-requires
 parse-requires c κs =
-    let start = c .before .before .before .before .before .before .before .before .before .before .before .before .before .before
-    .before in
-    let prepare = c .before .before .before .before .before .before .before .before .before .before .before .before .prepare in
-    let pack-units = c .before .before .before .before .before .before .before .before .before .before .before .pack-units in
-    let most-in-bar = c .before .before .before .before .before .before .before .before .most-in-bar in
-    let nonterminals = c .before .before .before .before .before .before .nonterminals in
-    let length-count = c .before .before .before .before .length-count in
-    let s = start .pre .0 in
-    let h = start .pre .1 in
-    let prepared = prepare .ensures s (h .held .good .rules) (h .held .grammar) in
-    let units = pack-units .ensures (s .playing) (h .held .good .onsets) (h .held .playing) in
-    let most = most-in-bar .ensures .1 (s .playing) (h .held .good .onsets) (h .held .playing) in
-    let counts = counted h _ prepared _ _ _ (nonterminals .ensures) (length-count .ensures) most in
-    let cells = 16 * (nonterminals .result * length-count .result * most-in-bar .result) in
-    let fit = cells-fit h _ _ _ counts cells refl in
-    let entry = parse-entry h _ _ cells _ _ prepared units (cells-are h _ _ _ counts cells refl) fit refl refl in
-    (s, entry)
+    let at-cells = c .before .before .before .before in
+    let at-start = start-place at-cells in
+    (at-start .pre .0, entry at-cells _ (at-start .pre .1))
 
 mul-clear : tie.Need-mul-clear
 mul-clear c = search needs
 
 add-clear : tie.Need-add-clear
 add-clear c =
-    let start = c .before .before .before .before .before .before .before .before .before .before .before .before .before .before .before
-    .before .before .before .before .before .before in
-    let prepare = c .before .before .before .before .before .before .before .before .before .before .before .before .before .before
-    .before .before .before .before .prepare in
-    let most-in-bar = c .before .before .before .before .before .before .before .before .before .before .before .before .before .before
-    .most-in-bar in
-    let nonterminals = c .before .before .before .before .before .before .before .before .before .before .before .before .nonterminals in
-    let length-count = c .before .before .before .before .before .before .before .before .before .before .length-count in
-    let s = start .pre .0 in
-    let h = start .pre .1 in
-    let prepared = prepare .ensures s (h .held .good .rules) (h .held .grammar) in
-    let most = most-in-bar .ensures .1 (s .playing) (h .held .good .onsets) (h .held .playing) in
-    let counts = counted h _ prepared _ _ _ (nonterminals .ensures) (length-count .ensures) most in
-    let small = product-small h _ _ _ counts in
-    record { fits = omega (arith, small .1, bars-are h, h .held .good .onsets .sixty-four) }
+    let at-parse = c .before .before .before .before .before in
+    let at-cells = cells-place at-parse in
+    let h = start-place at-cells .pre .1 in
+    record { fits = omega (arith, cells-are at-cells _ h, cells-few h, bars-are h, h .held .good .onsets .sixty-four) }
 
+-- the work slice comes back as long as it was
 clear-requires : tie.Need-clear-requires
 clear-requires c κs =
-    let start = c .before .before .before .before .before .before .before .before .before .before .before .before .before .before .before
-    .before .before .before .before .before .before in
-    let prepare = c .before .before .before .before .before .before .before .before .before .before .before .before .before .before
-    .before .before .before .before .prepare in
-    let most-in-bar = c .before .before .before .before .before .before .before .before .before .before .before .before .before .before
-    .most-in-bar in
-    let nonterminals = c .before .before .before .before .before .before .before .before .before .before .before .before .nonterminals in
-    let length-count = c .before .before .before .before .before .before .before .before .before .before .length-count in
-    let parse = c .before .before .before .before .before .parse in
-    let s = start .pre .0 in
-    let h = start .pre .1 in
-    let prepared = prepare .ensures s (h .held .good .rules) (h .held .grammar) in
-    let most = most-in-bar .ensures .1 (s .playing) (h .held .good .onsets) (h .held .playing) in
-    let counts = counted h _ prepared _ _ _ (nonterminals .ensures) (length-count .ensures) most in
-    let cells = 16 * (nonterminals .result * length-count .result * most-in-bar .result) in
-    let fit = cells-fit h _ _ _ counts cells refl in
-    let all = ap (λ b. cells + 16 * b) (bars-are h) ∙ all-cells h _ _ _ counts cells refl in
-    let zs = parse .last .1 .1 .0 in
-    let size = parse .kept .1 .1 .0 in
-    let same = lent-length h zs cells size fit in
-    omega (arith, same, all, h .work-size)
+    let at-parse = c .before .before .before .before .before in
+    let at-cells = cells-place at-parse in
+    let h = start-place at-cells .pre .1 in
+    let same = lent-length h (at-parse .parse .last .1 .1 .0) (cells-of at-cells) (at-parse .parse .kept .1 .1 .0) (fit at-cells _ h) in
+    omega (arith, same, cells-all h (cells-are at-cells _ h), h .work-size)
 
 same-length : tie.Need-same-length
 same-length c = search needs
@@ -191,33 +135,14 @@ same-length-2 c = search needs
 
 returns : tie.Need-returns
 returns c =
-    let start = c .before .before .before .before .before .before .before .before .before .before .before .before .before .before .before
-    .before .before .before .before .before .before .before .before .before in
-    let prepare = c .before .before .before .before .before .before .before .before .before .before .before .before .before .before
-    .before .before .before .before .before .before .before .prepare in
-    let pack-units = c .before .before .before .before .before .before .before .before .before .before .before .before .before .before
-    .before .before .before .before .before .before .pack-units in
-    let most-in-bar = c .before .before .before .before .before .before .before .before .before .before .before .before .before .before
-    .before .before .before .most-in-bar in
-    let nonterminals = c .before .before .before .before .before .before .before .before .before .before .before .before .before .before
-    .before .nonterminals in
-    let length-count = c .before .before .before .before .before .before .before .before .before .before .before .before .before
-    .length-count in
-    let parse = c .before .before .before .before .before .before .before .before .parse in
-    let clear = c .before .before .clear in
-    let a = start .args in
-    λ s h.
-    let prepared = prepare .ensures s (h .held .good .rules) (h .held .grammar) in
-    let units = pack-units .ensures (s .playing) (h .held .good .onsets) (h .held .playing) in
-    let most = most-in-bar .ensures .1 (s .playing) (h .held .good .onsets) (h .held .playing) in
-    let counts = counted h _ prepared _ _ _ (nonterminals .ensures) (length-count .ensures) most in
-    let cells = 16 * (nonterminals .result * length-count .result * most-in-bar .result) in
-    let fit = cells-fit h _ _ _ counts cells refl in
-    let all = ap (λ b. cells + 16 * b) (bars-are h) ∙ all-cells h _ _ _ counts cells refl in
-    let entry = parse-entry h _ _ cells _ _ prepared units (cells-are h _ _ _ counts cells refl) fit refl refl in
-    let zs = parse .last .1 .1 .0 in
-    let size = parse .kept .1 .1 .0 in
-    searched h _ zs _ cells (cells + 16 * a .playing .bars) _ (parse .ensures s entry) fit size (omega arith) all (clear .ensures)
+    let at-clear = c .before .before in
+    let at-parse = at-clear .before .before .before .before .before .before in
+    let at-cells = cells-place at-parse in
+    let cells = cells-of at-cells in
+    let rows = at-parse .parse .last .1 .1 .0 in
+    λ s h. searched h _ rows _ cells (cells + 16 * start-place at-cells .args .playing .bars) _ (at-parse .parse .ensures s
+    (entry at-cells s h)) (fit at-cells s h) (at-parse .parse .kept .1 .1 .0) (omega arith) (cells-all h (cells-are at-cells s h))
+    (at-clear .clear .ensures)
 
 pub least-tree-spec : {M : Type 1} → statement M
 least-tree-spec =
@@ -228,11 +153,7 @@ least-tree-spec =
     cast-start
     cast-count
     most-in-bar-requires
-    nonterminals-requires
-    length-count-requires
-    mul-cells
-    mul-cells-2
-    mul-cells-3
+    row-cells-requires
     slice-relend-prefix-parse
     slice-aggregate-parse
     parse-requires

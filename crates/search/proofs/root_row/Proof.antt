@@ -13,11 +13,10 @@ idle-requires c κs =
 
 returns : tie.Need-returns
 returns c =
-    let start = c .before .before .before in
-    let idle = c .before .idle in
-    let if1 = c .if1 in
-    let few = start .pre .0 in
-    λ s h. pass-idle h few (h .sound) (idle .ensures s (h .prepared) (if1 .taken))
+    let at-idle = c .before in
+    let at-start = at-idle .before .before in
+    let few = at-start .pre .0 in
+    λ s h. pass-idle h few (h .sound) (at-idle .idle .ensures s (h .prepared) (c .if1 .taken))
 
 cast-lo : tie.Need-cast-lo
 cast-lo c = search needs
@@ -27,20 +26,20 @@ mul-lo c = search needs
 
 cells-requires : tie.Need-cells-requires
 cells-requires c κs =
-    let start = c .before .before .before .before .before in
-    let s = start .pre .1 .0 in
-    let h = start .pre .1 .1 in
-    (s, pass-cells h (start .pre .0))
+    let at-start = c .before .before .before .before .before in
+    let s = at-start .pre .1 .0 in
+    let h = at-start .pre .1 .1 in
+    (s, pass-cells h (at-start .pre .0))
 
 same-length : tie.Need-same-length
 same-length c = search needs
 
 returns-2 : tie.Need-returns-2
 returns-2 c =
-    let start = c .before .before .before .before .before .before .before .before in
-    let cells = c .before .before .cells in
-    let few = start .pre .0 in
-    λ s h. pass-rooted h few (cells .ensures s (pass-cells h few))
+    let at-cells = c .before .before in
+    let at-start = at-cells .before .before .before .before .before .before in
+    let few = at-start .pre .0 in
+    λ s h. pass-rooted h few (at-cells .cells .ensures s (pass-cells h few))
 
 pub root-row-spec : {M : Type 1} → statement M
 root-row-spec =

@@ -1,21 +1,35 @@
--- `settle` meets its contract: the vectors are those that the bars are built with. Assumes nothing.
-use Rattle.search.proofs.SettleSteps.{settle-back, settle-build}
+-- `settle` meets its contract: the vectors that `backward` makes are those that the bars are built with. Assumes nothing.
 use borrow.Author.Needs.{needs}
+use Rattle.sheet.specs.Sheet.{Sheet}
+use Rattle.search.specs.Search.{BarsBuildEntry, SettleEntry}
+use Rattle.search.proofs.SettleSteps.{settle-back, settle-build}
 use Rattle.search.proofs.settle.Statement.{statement}
 use Rattle.search.proofs.settle.Tie as tie
 
+-- ---- where the vectors are made
+
+abbrev start-of : tie.After-backward → tie.Start
+start-of c = c .before .before .before .before .before .before
+
+entry : (c : tie.After-backward) (s : Sheet) → let a = start-of c .args in
+    SettleEntry s (a .plan .now) (a .units .now) (a .rows .now) (a .tree .now) (a .roots .now) (a .vectors .now) (a .start) (a .from)
+    (a .end) (a .n)
+    → BarsBuildEntry s (a .plan .now) (a .units .now) (a .rows .now) (a .tree .now) (c .backward .last .1 .0) (a .roots .now) (a .start)
+    (a .from) (a .end) (a .n)
+entry c s h = settle-build h (c .backward .ensures s (settle-back h))
+
+-- ---- the needs
+
 backward-requires : tie.Need-backward-requires
 backward-requires c κs =
-    let start = c .before .before .before .before .before in
-    (start .pre .0, settle-back (start .pre .1))
+    let at-start = c .before .before .before .before .before in
+    (at-start .pre .0, settle-back (at-start .pre .1))
 
 build-bars-requires : tie.Need-build-bars-requires
 build-bars-requires c κs =
-    let start = c .before .before .before .before .before .before .before .before .before .before .before in
-    let backward = c .before .before .before .before .before .backward in
-    let s = start .pre .0 in
-    let h = start .pre .1 in
-    (s, settle-build h (backward .ensures s (settle-back h)))
+    let at-backward = c .before .before .before .before .before in
+    let at-start = start-of at-backward in
+    (at-start .pre .0, entry at-backward _ (at-start .pre .1))
 
 same-length : tie.Need-same-length
 same-length c = search needs
@@ -28,9 +42,9 @@ same-length-3 c = search needs
 
 returns : tie.Need-returns
 returns c =
-    let backward = c .before .before .before .before .before .before .before .before .before .before .backward in
-    let build-bars = c .before .before .before .before .build-bars in
-    λ s h. build-bars .ensures s (settle-build h (backward .ensures s (settle-back h)))
+    let at-build = c .before .before .before .before in
+    let at-backward = at-build .before .before .before .before .before .before in
+    λ s h. at-build .build-bars .ensures s (entry at-backward s h)
 
 pub settle-spec : {M : Type 1} → statement M
 settle-spec =
