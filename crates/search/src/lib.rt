@@ -389,7 +389,7 @@ fn parse<'a>(
     }
 }
 
-// How many cells the rows take, four a slot, where no bar has more than `most` onsets.
+// How many cells the rows take, four a slot, where `most` is the largest number of onsets in a bar.
 fn row_cells(plan: &[u64; 3055], most: usize) -> usize
     requires { ⌜ ((s : Sheet) × RowCellsEntry s (now plan) most) ⌝ }
     ensures { λ n. ⌜ ((s : Sheet) → RowCellsEntry s (now (plan .entry)) most → n ≡ rowCells s) ⌝ }
