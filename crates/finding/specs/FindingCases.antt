@@ -27,8 +27,9 @@ use Rattle.sheet.specs.Outcome.{Outcome, refused, accepted}
 use Rattle.sheet.specs.Reading.{readSheet}
 use Rattle.sheet.specs.Good.{Good}
 use Rattle.sheet.specs.Accepted.{Accepts, accepted-good}
-use Rattle.sheet.specs.Cases.{S}
+use Rattle.sheet.specs.Cases.{S, sheetS, S-means}
 use Rattle.sizes.specs.Sizes.{treeBytes, workCells}
+use Rattle.sizes.specs.Cases.{S-tree, S-work}
 use Rattle.derivations.specs.Derivation.{Price}
 use Rattle.trees.specs.ValidTrees as trees
 use Rattle.trees.specs.ValidTrees.{bars, ValidTree, totalOf}
@@ -40,8 +41,8 @@ use Rattle.trees.specs.Found.{LeastTree, own-price}
 use Rattle.pricing.specs.declared.Priced.{Priced}
 use Rattle.pricing.specs.Pricing.{Figures, priced, priceSheet, pricedOf}
 use Rattle.pricing.specs.PricingLaws.{price-own}
-use Rattle.finding.specs.Finding.{Search, found, noTree, findSheet, cleared, FoundTree, Result, Gives, Finds}
-use Rattle.finding.specs.Outcomes.{one-found, none-found}
+use Rattle.finding.specs.Finding.{Search, found, noTree, findSheet, findText, cleared, FoundTree, Result, Gives, Finds}
+use Rattle.finding.specs.Outcomes.{work-short, tree-short, one-found, none-found}
 use Rattle.finding.specs.FindingLaws.{has-tree, has-none, sheet-found}
 use Rattle.finding.specs.EveryReading.{reading-passes}
 use Rattle.finding.specs.Cases.{Case, cases, same, alike, onlyTree, carriesOut, everyList, judgedTree, judged, holds}
@@ -213,3 +214,11 @@ unfolding pricedOf
 S-found tree treeAfter work workAfter answer w t f =
     let g = all-answered .0 tree treeAfter work workAfter answer w t f in
     (g .answer-is, ap (take 3) (g .tree-is) ∙ take-over (1 ∷ 3 ∷ 3 ∷ []) tree (omega arith))
+
+-- "9: S with 463 cells", whatever the tree slice; "10: S with 160 bytes", with enough cells
+pub S-nine : (tree : ℕ) → findText S tree 463 ≡ refused 9 0
+S-nine tree = sheet-found S tree 463 sheetS (_, S-means) ∙ work-short sheetS tree 463 (omega (arith, S-work))
+
+pub S-ten : (work : ℕ) → 464 ≤ work → findText S 160 work ≡ refused 10 0
+S-ten work h =
+    sheet-found S 160 work sheetS (_, S-means) ∙ tree-short sheetS 160 work (omega (arith, S-work)) (omega (arith, S-tree))

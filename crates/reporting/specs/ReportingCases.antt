@@ -9,9 +9,8 @@ use native.Mathlib.Omega.{arith}
 use lib.ListN.{length}
 use Rattle.hextext.specs.Written.{lineText}
 use Rattle.sheet.specs.Literal.{textOf}
-use Rattle.sheet.specs.Sheet.{inBar}
 use Rattle.sheet.specs.Cases.{S, sheetS, S-means}
-use Rattle.sizes.specs.Sizes.{treeBytes, workCells, lengthCount, mostInBar, largest}
+use Rattle.sizes.specs.Cases.{S-tree, S-work}
 use Rattle.derivations.specs.Derivation.{onto}
 use Rattle.derivations.specs.Minima.{lowest}
 use Rattle.derivations.specs.Table.{via, forward}
@@ -41,14 +40,6 @@ refusal-lines = refl
 
 -- ---- S
 
-S-cells : workCells sheetS ≡ 464
-unfolding workCells lengthCount mostInBar largest inBar
-S-cells = refl
-
-S-room : treeBytes sheetS ≡ 161
-unfolding treeBytes
-S-room = refl
-
 S-has-tree : hasTree sheetS ≡ true
 unfolding hasTree leastTotal whose distanceTo Option·elim lowest via forward onto
 S-has-tree = refl
@@ -63,10 +54,10 @@ module _ (tree treeAfter work workAfter score scoreAfter line lineAfter : List �
   S-outcome : findText S (length tree) (length work) ≡ accepted (found sheetS)
   S-outcome =
       sheet-found S _ _ sheetS (_, S-means)
-      ∙ one-found sheetS _ _ (omega (arith, S-cells)) (omega (arith, S-room)) S-has-tree
+      ∙ one-found sheetS _ _ (omega (arith, S-work)) (omega (arith, S-tree)) S-has-tree
 
-  S-tree : PrintsTree sheetS tree treeAfter score scoreAfter line lineAfter shown
-  S-tree =
+  S-page : PrintsTree sheetS tree treeAfter score scoreAfter line lineAfter shown
+  S-page =
       subst (λ (o : Outcome Search). Printed o tree treeAfter work workAfter score scoreAfter line lineAfter shown) S-outcome (r .is) .0
 
   abbrev page : Outcome (List ℕ)
@@ -74,7 +65,7 @@ module _ (tree treeAfter work workAfter score scoreAfter line lineAfter : List �
 
   -- what is printed, and the tree slice
   S-shown : (printed shown scoreAfter lineAfter ≡ pageText page) × (treeAfter ≡ treeWith page (1 ∷ 3 ∷ 3 ∷ []) tree)
-  S-shown = go S-tree (S-least (S-tree .bytes) (S-tree .weight) (S-tree .distance) (S-tree .least))
+  S-shown = go S-page (S-least (S-page .bytes) (S-page .weight) (S-page .distance) (S-page .least))
     where
       go : (p : PrintsTree sheetS tree treeAfter score scoreAfter line lineAfter shown)
           → (p .bytes ≡ 1 ∷ 3 ∷ 3 ∷ []) × (p .weight ≡ 8) × (p .distance ≡ 1008)

@@ -14,11 +14,11 @@ S-most-in-bar : mostInBar (sheetS .playing) ≡ 2
 unfolding mostInBar largest inBar
 S-most-in-bar = refl
 
-S-tree : treeBytes sheetS ≡ 161
+pub S-tree : treeBytes sheetS ≡ 161
 unfolding treeBytes
 S-tree = refl
 
-S-work : workCells sheetS ≡ 464
+pub S-work : workCells sheetS ≡ 464
 unfolding workCells lengthCount mostInBar largest inBar
 S-work = refl
 
