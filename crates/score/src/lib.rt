@@ -4,6 +4,7 @@ ghost use Prim.Native.Nat.{_≤_};
 ghost use lib.ListN.{length};
 ghost use Rattle.sheet.specs.Sheet.{Sheet};
 ghost use Rattle.sheet.specs.Accepted.{SheetHeld};
+ghost use Rattle.trees.specs.Room.{treeMost};
 ghost use Rattle.score.specs.ScoreLaws.{textSize};
 ghost use Rattle.score.specs.LeafRules.{leafOne, leafRules};
 ghost use Rattle.sheet.specs.Outcome as outcome;
@@ -102,7 +103,7 @@ fn refused(number: u8, line: usize) -> Written
 
 // The length of a tree's score lines, by the numbers of its leaves and of the sheet's onsets.
 fn text_size(leaves: usize, onsets: usize) -> usize
-    requires { ⌜ (leaves ≤ 41024) × (onsets ≤ 512) ⌝ }
+    requires { ⌜ (leaves ≤ treeMost) × (onsets ≤ 512) ⌝ }
     ensures { λ r. ⌜ r ≡ textSize leaves onsets ⌝ }
 {
     53 + 19 * leaves + 2 * onsets
