@@ -12,7 +12,9 @@ ghost use Rattle.rows.specs.Rows.{partsAt};
 ghost use Rattle.building.specs.Rebuilding.{at, BehindEntry, PassedAs, Behind, BuildEntry, PartsBuildEntry, BuiltAs};
 ghost use Rattle.building.specs.ChoosingLaws.{leastCell};
 use expansions::Interval;
+use expansions::PackedUnits;
 use expansions::place;
+use plan::Plan;
 use plan::child;
 use plan::length;
 use plan::split_at;
@@ -48,8 +50,8 @@ fn least_cell(y: [u64; 4], v: [u64; 4]) -> u64
 // What the parts of rule r from part i on total from carry state c with the vector v behind them; NONE where c is idle by the totals y of
 // the item before them, since no least list passes it.
 fn passed<'a>(
-    plan: &'a [u64; 3055],
-    units: &'a [u32; 513],
+    plan: &'a Plan,
+    units: &'a PackedUnits,
     rows: &mut [u64],
     bar: Bar,
     r: usize,
@@ -77,8 +79,8 @@ fn passed<'a>(
 
 // The vector before the parts of rule r from part i on, with v behind them and the totals y of the item before them.
 fn behind<'a>(
-    plan: &'a [u64; 3055],
-    units: &'a [u32; 513],
+    plan: &'a Plan,
+    units: &'a PackedUnits,
     rows: &mut [u64],
     bar: Bar,
     r: usize,
@@ -108,8 +110,8 @@ fn behind<'a>(
 
 // Writes the first least list of an item from byte `to` on: y is its row from carry state c, and v the vector behind it.
 pub fn build<'a>(
-    plan: &'a [u64; 3055],
-    units: &'a [u32; 513],
+    plan: &'a Plan,
+    units: &'a PackedUnits,
     rows: &mut [u64],
     tree: &mut [u8],
     bar: Bar,
@@ -164,8 +166,8 @@ pub fn build<'a>(
 
 // Writes the first least lists of the parts of rule r, one behind the other, with the vector v behind them.
 fn build_parts<'a>(
-    plan: &'a [u64; 3055],
-    units: &'a [u32; 513],
+    plan: &'a Plan,
+    units: &'a PackedUnits,
     rows: &mut [u64],
     tree: &mut [u8],
     bar: Bar,

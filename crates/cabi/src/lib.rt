@@ -6,6 +6,7 @@ ghost use Rattle.pricing.specs.Pricing.{priceText, pricedOf};
 ghost use Rattle.score.specs.Writing.{writeText, scoreAfter};
 ghost use Rattle.cabi.specs.Entries.{checkOf, workOf, treeOf, unitAt, answerCells, writeCells, FindCells};
 use pricing::Priced;
+use sheet::ONSETS_MOST;
 
 // The number of a text's refusal times 65,536, plus its line; 0: the text is accepted.
 #[no_mangle]
@@ -51,7 +52,7 @@ pub extern "C" fn rhythm_onset_unit(text: &[u8], i: usize) -> u32
     ensures { λ r. ⌜ r ≡ unitAt (readSheet (now (text .entry))) i ⌝ }
 {
     let r = reading::read(text);
-    if 512 <= i {
+    if ONSETS_MOST <= i {
         return 0;
     }
     let playing = r.playing;

@@ -10,9 +10,21 @@ ghost use Rattle.trees.specs.ValidTrees.{token};
 ghost use Rattle.expansions.specs.Tables.{unpackedOf, PackedRules, unitCells};
 ghost use Rattle.expansions.specs.Items.{Here, Entered, PlacedAt, At, itemOf, AsLeaf, AsDivision, Expands};
 use sheet::GrammarTable;
+use sheet::ONSETS_MOST;
+use sheet::PIECE_UNITS;
 use sheet::PlayingTable;
+use sheet::RULES_MOST;
 use sheet::Rule;
 use sheet::Units;
+
+// A grammar's rules, one a cell.
+pub type PackedRules = [u64; RULES_MOST];
+
+// The cells of the units: one an onset, and one more, so that there is always one behind them.
+pub const UNIT_CELLS: usize = ONSETS_MOST + 1;
+
+// The units of a playing's onsets as plain numbers.
+pub type PackedUnits = [u32; UNIT_CELLS];
 
 // An interval, by its left bound, counted from the first bar, and its length.
 pub struct Interval {
@@ -76,7 +88,7 @@ pub fn unpacked(cell: u64) -> Rule
 }
 
 // The rule at a place of the packed rules.
-pub fn rule_at(rules: &[u64; 64], r: usize) -> Rule
+pub fn rule_at(rules: &PackedRules, r: usize) -> Rule
     requires { ⌜ r < 64 ⌝ }
     ensures { λ x. ⌜ x ≡ unpackedOf (getD (now (rules .entry)) r 0) ⌝ }
 {
@@ -84,12 +96,12 @@ pub fn rule_at(rules: &[u64; 64], r: usize) -> Rule
 }
 
 // The rules of a grammar, packed.
-pub fn pack_rules(g: GrammarTable) -> [u64; 64]
+pub fn pack_rules(g: GrammarTable) -> PackedRules
     ensures { λ r. ⌜ ((h : Grammar) → g ≡ grammarTable h → PackedRules h r) ⌝ }
 {
-    let mut out = [0u64; 64];
+    let mut out = [0u64; RULES_MOST];
     let mut i: usize = 0;
-    while i < 64 {
+    while i < RULES_MOST {
         let cell = g.rules[i];
         let rule = cell.rule;
         out[i] = packed(rule);
@@ -100,11 +112,11 @@ pub fn pack_rules(g: GrammarTable) -> [u64; 64]
 
 // The units of a playing's onsets; in every place behind them the end of the longest piece, so that a search for the first onset behind
 // an interval needs no count.
-pub fn pack_units(p: PlayingTable) -> [u32; 513]
+pub fn pack_units(p: PlayingTable) -> PackedUnits
     requires { ⌜ p .count ≤ 512 ⌝ }
     ensures { λ r. ⌜ ((q : Playing) → GoodOnsets q → p ≡ playingTable q → r ≡ unitCells q) ⌝ }
 {
-    let mut out = [1290240u32; 513];
+    let mut out = [PIECE_UNITS; UNIT_CELLS];
     let n = p.count;
     let mut i: usize = 0;
     while i < n {
@@ -123,7 +135,7 @@ pub fn token_of(placed: usize, before: usize) -> u8
 }
 
 // What a leaf over an interval does with the onsets inside; `from` is the place of the first onset at or behind its left bound.
-pub fn place(units: &[u32; 513], over: Interval, from: usize) -> Placed
+pub fn place(units: &PackedUnits, over: Interval, from: usize) -> Placed
     requires { ⌜ ((s : Sheet) × Here s (now units) over from) ⌝ }
     ensures { λ r. ⌜ ((s : Sheet) → Here s (now (units .entry)) over from → PlacedAt s over r) ⌝ }
 {
@@ -154,7 +166,7 @@ pub fn place(units: &[u32; 513], over: Interval, from: usize) -> Placed
 
 // A leaf of a weight and n over an interval that `carried` onsets are carried into.
 fn leaf_at(
-    units: &[u32; 513],
+    units: &PackedUnits,
     over: Interval,
     from: usize,
     carried: usize,
@@ -182,7 +194,13 @@ fn leaf_at(
 }
 
 // A division of a weight into `arity` parts.
-fn division_at(units: &[u32; 513], over: Interval, from: usize, weight: u16, arity: u8) -> Expansion
+fn division_at(
+    units: &PackedUnits,
+    over: Interval,
+    from: usize,
+    weight: u16,
+    arity: u8,
+) -> Expansion
     requires { ⌜ ((s : Sheet) × Here s (now units) over from) ⌝ }
     ensures { λ x. ⌜ ((s : Sheet) → Here s (now (units .entry)) over from → AsDivision s over weight arity x) ⌝ }
 {
@@ -204,8 +222,8 @@ fn division_at(units: &[u32; 513], over: Interval, from: usize, weight: u16, ari
 
 // Rule r at the item of a nonterminal over an interval that `carried` onsets are carried into.
 pub fn expand<'a>(
-    rules: &'a [u64; 64],
-    units: &'a [u32; 513],
+    rules: &'a PackedRules,
+    units: &'a PackedUnits,
     r: u8,
     nonterminal: u8,
     over: Interval,
@@ -219,7 +237,7 @@ pub fn expand<'a>(
         ⌝ }
 {
     let i = r as usize;
-    if 64 <= i {
+    if RULES_MOST <= i {
         return Expansion::Refused;
     }
     let rule = rule_at(rules, i);

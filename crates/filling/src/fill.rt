@@ -11,10 +11,13 @@ ghost use Rattle.filling.specs.Order.{usedIn};
 ghost use Rattle.filling.specs.Pairs.{pairAt, putPair, lesserPair};
 ghost use Rattle.filling.specs.Filling.{FillEntry, LoneBy, LeavesTo, RuleEntry, ArityEntry, Best, LengthEntry, Solved};
 ghost use Rattle.filling.specs.Filling.{KeepEntry, KeptTo, AtEntry, FilledAt, OnsetEntry, OnsetFilled};
+use crate::order::Order;
 use crate::order::first_of;
 use crate::order::is_worth;
 use crate::order::named_at;
 use crate::order::used_in;
+use expansions::PackedUnits;
+use plan::Plan;
 use plan::child;
 use plan::length_count;
 use plan::split_by;
@@ -26,10 +29,18 @@ use rows::slots::place_of;
 use rows::slots::store;
 use rows::vector::NO_CELL;
 use rows::vector::least;
+use sheet::BAR_UNITS;
 use sheet::Units;
+use sizes::LENGTHS_MOST;
+
+// The cells of a length's pairs: two for each of 16 nonterminals.
+const BEST_CELLS: usize = 32;
+
+// The cells of the pairs of all lengths.
+const PAIRS_CELLS: usize = BEST_CELLS * LENGTHS_MOST;
 
 // Whether no onset beside that at place `from` lies between `left` and `right`; `first` is the place of the bar's first.
-fn lone(units: &[u32; 513], first: usize, from: usize, left: Units, right: Units) -> bool
+fn lone(units: &PackedUnits, first: usize, from: usize, left: Units, right: Units) -> bool
     requires { ⌜ (first ≤ from) × (from < 512) ⌝ }
     ensures { λ x. ⌜ LoneBy (now (units .entry)) first from (left .0) (right .0) x ⌝ }
 {
@@ -77,7 +88,7 @@ fn lower(cells: &mut [u64], at: usize, x: Pair)
 }
 
 // Cells 0 and 1 of the leaves of the first `used` nonterminals, where the only onset is d behind the left bound.
-fn fill_leaves(plan: &[u64; 3055], best: &mut [u64], used: usize, len: Units, d: Units)
+fn fill_leaves(plan: &Plan, best: &mut [u64], used: usize, len: Units, d: Units)
     requires { ⌜
         (used ≤ 16) × (length (now best) ≡ 32) × (d .0 ≤ len .0) × (len .0 ≤ lastUnit) × ((s : Sheet) × Prepared s (now plan))
         ⌝ }
@@ -92,7 +103,7 @@ fn fill_leaves(plan: &[u64; 3055], best: &mut [u64], used: usize, len: Units, d:
 }
 
 // What rule r comes to, where its part j, of the length with index h, has the onset.
-fn rule_pair<'a>(plan: &'a [u64; 3055], pairs: &'a [u64], r: usize, h: usize, j: usize) -> Pair
+fn rule_pair<'a>(plan: &'a Plan, pairs: &'a [u64], r: usize, h: usize, j: usize) -> Pair
     requires { ⌜ ((s : Sheet) × RuleEntry s (now plan) (now pairs) r h j) ⌝ }
     ensures { λ x. ⌜
         ((s : Sheet) (e : RuleEntry s (now (plan .entry)) (now (pairs .entry)) r h j)
@@ -106,8 +117,8 @@ fn rule_pair<'a>(plan: &'a [u64; 3055], pairs: &'a [u64], r: usize, h: usize, j:
 
 // Lowers the cells by the rules of k parts, where part j, of the length with index h, has the onset.
 fn fill_arity<'a>(
-    plan: &'a [u64; 3055],
-    order: &'a [u64; 80],
+    plan: &'a Plan,
+    order: &'a Order,
     pairs: &'a [u64],
     best: &mut [u64],
     k: usize,
@@ -132,8 +143,8 @@ fn fill_arity<'a>(
 
 // Lowers the cells of the leaves of an interval, of the length with index l, by all rules; the only onset is d behind its left bound.
 fn fill_length<'a>(
-    plan: &'a [u64; 3055],
-    order: &'a [u64; 80],
+    plan: &'a Plan,
+    order: &'a Order,
     pairs: &'a [u64],
     best: &mut [u64],
     l: usize,
@@ -161,8 +172,8 @@ fn fill_length<'a>(
 
 // Stores the cells of an interval: beside those of shorter ones, and in the table.
 fn keep<'a>(
-    plan: &'a [u64; 3055],
-    order: &'a [u64; 80],
+    plan: &'a Plan,
+    order: &'a Order,
     rows: &mut [u64],
     pairs: &mut [u64],
     best: &[u64],
@@ -195,9 +206,9 @@ fn keep<'a>(
 
 // Stores the rows of the interval of the length with index l around the onset at place `from`, where it is the only one inside.
 fn fill_at<'a>(
-    plan: &'a [u64; 3055],
-    units: &'a [u32; 513],
-    order: &'a [u64; 80],
+    plan: &'a Plan,
+    units: &'a PackedUnits,
+    order: &'a Order,
     rows: &mut [u64],
     pairs: &mut [u64],
     best: &mut [u64],
@@ -215,7 +226,7 @@ fn fill_at<'a>(
 {
     let len = plan::length(plan, l);
     let unit = units[from];
-    let d = (unit - 20160 * (bar.number as u32)) % len.0;
+    let d = (unit - BAR_UNITS * (bar.number as u32)) % len.0;
     let left = unit - d;
     let right = left + len.0;
     if lone(units, bar.first, from, Units(left), Units(right)) {
@@ -227,9 +238,9 @@ fn fill_at<'a>(
 
 // Stores the rows of the intervals in which the onset at place `from` is the only one.
 fn fill_onset<'a>(
-    plan: &'a [u64; 3055],
-    units: &'a [u32; 513],
-    order: &'a [u64; 80],
+    plan: &'a Plan,
+    units: &'a PackedUnits,
+    order: &'a Order,
     rows: &mut [u64],
     pairs: &mut [u64],
     bar: Bar,
@@ -242,7 +253,7 @@ fn fill_onset<'a>(
         → OnsetFilled s (now (rows .exit)) (now (pairs .exit)))
         ⌝ }
 {
-    let mut best = [0; 32];
+    let mut best = [0; BEST_CELLS];
     let mut l = length_count(plan);
     while 0 < l {
         l -= 1;
@@ -252,9 +263,9 @@ fn fill_onset<'a>(
 
 // Stores the rows of all intervals of a bar that have one onset, from carry state 0, where that is worth it.
 pub fn fill_bar<'a>(
-    plan: &'a [u64; 3055],
-    units: &'a [u32; 513],
-    order: &'a [u64; 80],
+    plan: &'a Plan,
+    units: &'a PackedUnits,
+    order: &'a Order,
     rows: &mut [u64],
     bar: Bar,
 )
@@ -267,8 +278,8 @@ pub fn fill_bar<'a>(
     if !is_worth(order) {
         return;
     }
-    let end = 20160 * (bar.number as u32) + 20160;
-    let mut pairs = [0; 2688];
+    let end = BAR_UNITS * (bar.number as u32) + BAR_UNITS;
+    let mut pairs = [0; PAIRS_CELLS];
     let mut i = bar.first;
     while units[i] < end {
         fill_onset(plan, units, order, rows, &mut pairs, bar, i);

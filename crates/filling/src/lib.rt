@@ -5,4 +5,5 @@ mod fill;
 mod order;
 
 pub use fill::fill_bar;
+pub use order::Order;
 pub use order::by_arity;

@@ -12,6 +12,7 @@ use Rattle.sheet.specs.Sheet.{Sheet}
 use Rattle.sheet.specs.Held.{grammarTable}
 use Rattle.sheet.specs.Good.{Good}
 use Rattle.trees.specs.ValidTrees.{Priced, totalOf}
+use Rattle.trees.specs.Room.{treeMost}
 use Rattle.expansions.specs.Tables.{PackedRules}
 
 -- the weight in a rule's cell
@@ -23,7 +24,7 @@ weightIn (Leaf h w n) = w
 pub record WeightEntry (s : Sheet) (rules list : List ℕ) : Type 0 where
   pub packed : PackedRules (s .grammar) rules
   pub below : Every (λ (r : ℕ). r < 64) list
-  pub few : length list ≤ 41024
+  pub few : length list ≤ treeMost
 
 -- an accepted sheet's grammar, and a valid tree with its R, its D and its total
 pub record FiguresEntry (s : Sheet) (grammar : GrammarTable) (list : List ℕ) (R D total : ℕ) : Type 0 where

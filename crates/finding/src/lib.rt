@@ -9,6 +9,7 @@ ghost use Rattle.pricing.specs.Pricing.{priced, pricedOf};
 ghost use Rattle.search.specs.Search.{SearchEntry};
 ghost use Rattle.finding.specs.Finding.{findSheet, Gives, Finds};
 ghost use Rattle.finding.specs.Figures.{weightIn, WeightEntry, FiguresEntry};
+use expansions::PackedRules;
 use expansions::pack_rules;
 use expansions::rule_at;
 use pricing::Priced;
@@ -38,7 +39,7 @@ fn weight_of(rule: Rule) -> u64
 }
 
 // R of a list: the sum of the weights of its rules.
-fn weight_sum<'a>(rules: &'a [u64; 64], list: &'a [u8]) -> u64
+fn weight_sum<'a>(rules: &'a PackedRules, list: &'a [u8]) -> u64
     requires { ⌜ ((s : Sheet) × WeightEntry s (now rules) (now list)) ⌝ }
     ensures { λ r. ⌜
         ((s : Sheet) → WeightEntry s (now (rules .entry)) (now (list .entry)) → r ≡ ruleWeight s (now (list .entry)))

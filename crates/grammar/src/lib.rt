@@ -8,8 +8,12 @@ ghost use Rattle.sheet.specs.Reading.{demand, headRefusal, headOf, divisionRefu
 ghost use Rattle.sheet.specs.Held.{grammarTable, noGrammar};
 ghost use Rattle.sheet.specs.Good.{GoodRules};
 ghost use Rattle.grammar.specs.Steps.{cellOf, arityOf, PartsPut, RulesRead};
+use sheet::CHILD_CELLS;
+use sheet::Children;
 use sheet::GrammarTable;
 use sheet::Line;
+use sheet::PARTS_MOST;
+use sheet::RULES_MOST;
 use sheet::Rule;
 use sheet::RuleCell;
 use sheet::line_at;
@@ -35,8 +39,8 @@ pub fn no_grammar() -> GrammarTable
             arity: 0,
         },
     };
-    let rules = [cell; 64];
-    let children = [0u8; 512];
+    let rules = [cell; RULES_MOST];
+    let children = [0u8; CHILD_CELLS];
     GrammarTable {
         nonterminals: 0,
         start: 0,
@@ -103,21 +107,21 @@ fn division_refusal(q: u8, count: usize, l: Line) -> u8
         return 4;
     }
     let head = l.bytes[1];
-    let k = l.bytes[4];
+    let k = l.bytes[4] as usize;
     if k < 2 {
         return 5;
     }
-    if 8 < k {
+    if PARTS_MOST < k {
         return 5;
     }
-    if l.count != 5 + (k as usize) {
+    if l.count != 5 + k {
         return 4;
     }
     if q <= head {
         return 5;
     }
-    if all_below(q, k as usize, l) {
-        if 64 <= count {
+    if all_below(q, k, l) {
+        if RULES_MOST <= count {
             return 8;
         }
         return 0;
@@ -140,7 +144,7 @@ fn leaf_refusal(q: u8, count: usize, l: Line) -> u8
     if 3 < n {
         return 5;
     }
-    if 64 <= count {
+    if RULES_MOST <= count {
         return 8;
     }
     0
@@ -203,14 +207,14 @@ fn arity_of(l: Line) -> usize
 }
 
 // Puts k nonterminals of a line, from byte 5 on, at the eight places of rule n.
-fn put_parts(children: &mut [u8; 512], n: usize, k: usize, l: Line)
+fn put_parts(children: &mut Children, n: usize, k: usize, l: Line)
     requires { ⌜ (n < 64) × (k ≤ 8) ⌝ }
     ensures { λ _. ⌜ PartsPut n (bytesFrom k 5 l) (now (children .entry)) (now (children .exit)) ⌝ }
 {
     let mut j: usize = 0;
     while j < k {
         let x = l.bytes[j + 5];
-        children[n * 8 + j] = x;
+        children[n * PARTS_MOST + j] = x;
         j += 1;
     }
 }

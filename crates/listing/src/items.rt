@@ -3,14 +3,23 @@ ghost use Prim.Native.Nat.{_≤_, _<_};
 use case_text::least;
 use case_text::wide;
 use expansions::Interval;
+use expansions::PackedUnits;
+use expansions::UNIT_CELLS;
+use sheet::BARS_MOST;
+use sheet::Children;
+use sheet::PARTS_MOST;
+use sheet::PIECE_UNITS;
 use sheet::Rule;
 use sheet::Units;
 
+// The most items that are left: the bars, and at each of ten divisions that nest, all parts but the first.
+pub const ITEMS_MOST: usize = BARS_MOST + 10 * (PARTS_MOST - 1);
+
 // What is still to be derived: `items` items, the next one last, each by its nonterminal and its length; the left bound of the next one;
-// how many onsets are carried in. There is room for 64 bars, and for seven items more at each of ten divisions that nest.
+// how many onsets are carried in.
 pub struct Place {
-    pub names: [u8; 134],
-    pub lens: [u32; 134],
+    pub names: [u8; ITEMS_MOST],
+    pub lens: [u32; ITEMS_MOST],
     pub items: usize,
     pub left: Units,
     pub carried: u8,
@@ -50,7 +59,7 @@ fn kind_of(placed: usize) -> u8 {
 }
 
 // The onsets inside an interval. Units never fall, so the first behind it ends the count.
-fn inside(units: &[u32; 513], over: Interval) -> Counts
+fn inside(units: &PackedUnits, over: Interval) -> Counts
     ensures { λ r. ⌜ (r .early ≤ 513) × (r .late ≤ 513) ⌝ }
 {
     let left = twice(over.left.0);
@@ -58,7 +67,7 @@ fn inside(units: &[u32; 513], over: Interval) -> Counts
     let mut early: usize = 0;
     let mut late: usize = 0;
     let mut i: usize = 0;
-    while i < 513 {
+    while i < UNIT_CELLS {
         let unit = twice(units[i]);
         i += 1;
         if left <= unit {
@@ -76,7 +85,7 @@ fn inside(units: &[u32; 513], over: Interval) -> Counts
 }
 
 // A leaf of kind n over an interval that `carried` onsets are carried into.
-fn leaf_move(units: &[u32; 513], over: Interval, n: u8, carried: u8) -> Move {
+fn leaf_move(units: &PackedUnits, over: Interval, n: u8, carried: u8) -> Move {
     let here = inside(units, over);
     let late = here.late;
     if 3 < late {
@@ -89,7 +98,7 @@ fn leaf_move(units: &[u32; 513], over: Interval, n: u8, carried: u8) -> Move {
 }
 
 // A division of an interval into k parts.
-fn division_move(units: &[u32; 513], over: Interval, k: u8) -> Move {
+fn division_move(units: &PackedUnits, over: Interval, k: u8) -> Move {
     if k == 0 {
         return Move::Refused;
     }
@@ -109,7 +118,7 @@ pub fn next_item(p: Place) -> Item {
     let i = p.items;
     if 0 < i {
         let top = i - 1;
-        if top < 134 {
+        if top < ITEMS_MOST {
             return Item {
                 name: p.names[top],
                 over: Interval {
@@ -129,7 +138,7 @@ pub fn next_item(p: Place) -> Item {
 }
 
 // A rule at an item that `carried` onsets are carried into.
-pub fn move_at(units: &[u32; 513], rule: Rule, item: Item, carried: u8) -> Move {
+pub fn move_at(units: &PackedUnits, rule: Rule, item: Item, carried: u8) -> Move {
     let over = item.over;
     match rule {
         Rule::Leaf { head, weight: _, n } => {
@@ -162,23 +171,23 @@ pub fn is_allowed(m: Move) -> bool {
 // The right bound of an interval. None lies behind 64 bars, so the test is only for safety.
 fn right_bound(over: Interval) -> Units {
     let right = (over.left.0 as u64) + (over.len.0 as u64);
-    if 1290240 < right {
+    if (PIECE_UNITS as u64) < right {
         return Units(0);
     }
     Units(right as u32)
 }
 
 // Puts the parts of rule r, k items of a length, before the others.
-fn with_parts(children: &[u8; 512], r: usize, k: u8, len: Units, p: Place) -> Place
+fn with_parts(children: &Children, r: usize, k: u8, len: Units, p: Place) -> Place
     requires { ⌜ r < 64 ⌝ }
 {
     let mut q = p;
-    let mut j = least(wide(k), 8);
+    let mut j = least(wide(k), PARTS_MOST);
     while 0 < j {
         j -= 1;
         let top = q.items;
-        if top < 134 {
-            q.names[top] = children[8 * r + j];
+        if top < ITEMS_MOST {
+            q.names[top] = children[PARTS_MOST * r + j];
             q.lens[top] = len.0;
             q.items = top + 1;
         }
@@ -187,7 +196,7 @@ fn with_parts(children: &[u8; 512], r: usize, k: u8, len: Units, p: Place) -> Pl
 }
 
 // What rule r leaves to be derived where it makes m of the next item.
-pub fn place_behind(children: &[u8; 512], r: usize, m: Move, item: Item, p: Place) -> Place
+pub fn place_behind(children: &Children, r: usize, m: Move, item: Item, p: Place) -> Place
     requires { ⌜ r < 64 ⌝ }
 {
     let mut q = p;

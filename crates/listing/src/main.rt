@@ -7,17 +7,25 @@ use case_text::behind;
 use case_text::least;
 use case_text::place_of;
 use case_text::wide;
+use expansions::PackedRules;
+use expansions::PackedUnits;
 use expansions::pack_rules;
 use expansions::pack_units;
 use expansions::unpacked;
+use items::ITEMS_MOST;
 use items::Place;
 use items::is_allowed;
 use items::move_at;
 use items::next_item;
 use items::place_behind;
 use pricing::Priced;
+use sheet::BAR_UNITS;
+use sheet::Children;
+use sheet::ONSETS_MOST;
+use sheet::RULES_MOST;
 use sheet::Reading;
 use sheet::Units;
+use sizes::TREE_BYTES_MOST;
 
 mod items;
 
@@ -85,9 +93,9 @@ fn with_list(text: &[u8], found: &[u8], list: &[u8], carried: u8, t: Tally) -> T
 // Adds every tree that begins with the first `nodes` bytes of the list, which leave p to be derived.
 fn explore<'a>(
     text: &'a [u8],
-    rules: &'a [u64; 64],
-    children: &'a [u8; 512],
-    units: &'a [u32; 513],
+    rules: &'a PackedRules,
+    children: &'a Children,
+    units: &'a PackedUnits,
     found: &'a [u8],
     list: &mut [u8],
     nodes: usize,
@@ -109,7 +117,7 @@ fn explore<'a>(
     let item = next_item(p);
     let mut tally = t;
     let mut r: usize = 0;
-    while r < 64 {
+    while r < RULES_MOST {
         let i = r;
         r += 1;
         let m = move_at(units, unpacked(rules[i]), item, p.carried);
@@ -136,15 +144,15 @@ fn list_all<'a>(text: &'a [u8], sheet: Reading, found: &'a [u8], list: &mut [u8]
     if sheet.number != 0 {
         return none;
     }
-    if 512 < playing.count {
+    if ONSETS_MOST < playing.count {
         return none; // no accepted sheet has so many
     }
     let rules = pack_rules(grammar);
     let units = pack_units(playing);
     let children = grammar.children;
     let bars = Place {
-        names: [grammar.start; 134],
-        lens: [20160; 134],
+        names: [grammar.start; ITEMS_MOST],
+        lens: [BAR_UNITS; ITEMS_MOST],
         items: wide(playing.bars),
         left: Units(0),
         carried: 0,
@@ -208,9 +216,9 @@ fn run(s: &[u8], tree: &mut [u8], work: &mut [u64], list: &mut [u8]) {
 
 fn main() {
     let mut input = [0u8; 65536];
-    let mut tree = [0u8; 41024];
+    let mut tree = [0u8; TREE_BYTES_MOST];
     let mut work = [0u64; 8192];
-    let mut list = [0u8; 41024];
+    let mut list = [0u8; TREE_BYTES_MOST];
     let n = io::read_full(0, &mut input);
     run(&input[..n], &mut tree, &mut work, &mut list);
 }

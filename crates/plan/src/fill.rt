@@ -10,24 +10,31 @@ ghost use Rattle.expansions.specs.Tables.{RulesHeld};
 ghost use Rattle.plan.specs.Plan.{ruleCount, savedAt, Prepared};
 ghost use Rattle.plan.specs.Sections.{NotHead, FirstDivision, LastDivision, MostSaved};
 ghost use Rattle.plan.specs.Sections.{PackedLeaves, PartAmong, Small, Wide, LengthCells, Section, Cell};
+use crate::PLAN_CELLS;
+use crate::Plan;
+use crate::ways::LEAF_CELLS;
+use crate::ways::Leaves;
 use crate::ways::NO_CELL;
 use crate::ways::way_at;
+use expansions::PackedRules;
 use expansions::pack_rules;
 use expansions::rule_at;
 use expansions::token_of;
+use sheet::Children;
 use sheet::GrammarTable;
 use sheet::Rule;
+use sizes::LengthCells;
 use sizes::lengths;
 
 // The packed cell of the leaf rules of nonterminal q with each n, at 4 × q + n: 64 × the least cost, or the cap, and the first rule that
 // has it.
-fn least_leaves(rules: &[u64; 64], a: u16, count: usize) -> [u64; 64]
+fn least_leaves(rules: &PackedRules, a: u16, count: usize) -> Leaves
     requires { ⌜ count ≤ 64 ⌝ }
     ensures { λ x. ⌜
         ((s : Sheet) → RulesHeld s (now (rules .entry)) → a ≡ s .grammar .multiplier → count ≡ ruleCount s → PackedLeaves s x)
         ⌝ }
 {
-    let mut leaves = [NO_CELL; 64];
+    let mut leaves = [NO_CELL; LEAF_CELLS];
     let mut r: usize = 0;
     while r < count {
         let rule = rule_at(rules, r);
@@ -54,7 +61,7 @@ fn least_leaves(rules: &[u64; 64], a: u16, count: usize) -> [u64; 64]
 }
 
 // Of the first `count` lengths, the place of the length at l divided by k; `count` where there is none.
-fn part_at(lens: &[u32; 84], count: usize, l: usize, k: usize) -> u64
+fn part_at(lens: &LengthCells, count: usize, l: usize, k: usize) -> u64
     requires { ⌜ (count ≤ 84) × (l < 84) × (k < 9) × Small (now lens) ⌝ }
     ensures { λ h. ⌜ PartAmong (now (lens .entry)) count l k h ⌝ }
 {
@@ -71,7 +78,7 @@ fn part_at(lens: &[u32; 84], count: usize, l: usize, k: usize) -> u64
 }
 
 // Whether rule r is a division of nonterminal q.
-fn is_division_of(rules: &[u64; 64], r: usize, q: usize) -> bool
+fn is_division_of(rules: &PackedRules, r: usize, q: usize) -> bool
     requires { ⌜ r < 64 ⌝ }
     ensures { λ x. ⌜ ((s : Sheet) → RulesHeld s (now (rules .entry)) → x ≡ false → NotHead s q r) ⌝ }
 {
@@ -96,7 +103,7 @@ fn is_division_of(rules: &[u64; 64], r: usize, q: usize) -> bool
 }
 
 // Of the first n rules, the first that is a division of nonterminal q; n where there is none.
-fn first_of(rules: &[u64; 64], n: usize, q: usize) -> u64
+fn first_of(rules: &PackedRules, n: usize, q: usize) -> u64
     requires { ⌜ n ≤ 64 ⌝ }
     ensures { λ x. ⌜ FirstDivision (now (rules .entry)) n q x ⌝ }
 {
@@ -111,7 +118,7 @@ fn first_of(rules: &[u64; 64], n: usize, q: usize) -> u64
 }
 
 // One past the last of them; 0 where there is none.
-fn last_of(rules: &[u64; 64], n: usize, q: usize) -> u64
+fn last_of(rules: &PackedRules, n: usize, q: usize) -> u64
     requires { ⌜ n ≤ 64 ⌝ }
     ensures { λ x. ⌜ LastDivision (now (rules .entry)) n q x ⌝ }
 {
@@ -141,7 +148,7 @@ fn larger(a: u64, b: u64) -> u64
 }
 
 // The most that a leaf of nonterminal q with an onset before it is cheaper with c onsets carried in than with none.
-fn saved_at(leaves: &[u64; 64], q: usize, c: usize) -> u64
+fn saved_at(leaves: &Leaves, q: usize, c: usize) -> u64
     requires { ⌜ (q < 16) × (c < 4) ⌝ }
     ensures { λ x. ⌜
         ((s : Sheet) → GoodRules (s .grammar) → PackedLeaves s (now (leaves .entry)) → x ≡ largest (savedAt s q c) 4)
@@ -160,7 +167,7 @@ fn saved_at(leaves: &[u64; 64], q: usize, c: usize) -> u64
 }
 
 // The most of it, over the nonterminals below `heads`.
-fn saved_by(leaves: &[u64; 64], heads: usize, c: usize) -> u64
+fn saved_by(leaves: &Leaves, heads: usize, c: usize) -> u64
     requires { ⌜ (heads ≤ 16) × (c < 4) ⌝ }
     ensures { λ x. ⌜ MostSaved (now (leaves .entry)) heads c x ⌝ }
 {
@@ -176,10 +183,10 @@ fn saved_by(leaves: &[u64; 64], heads: usize, c: usize) -> u64
 
 // Cell i of the plan's tables. Behind the last length stands 0, so that no part is looked for there.
 fn section_at<'a>(
-    rules: &'a [u64; 64],
-    children: &'a [u8; 512],
-    leaves: &'a [u64; 64],
-    lens: &'a [u32; 84],
+    rules: &'a PackedRules,
+    children: &'a Children,
+    leaves: &'a Leaves,
+    lens: &'a LengthCells,
     count: usize,
     n: usize,
     i: usize,
@@ -221,10 +228,10 @@ fn section_at<'a>(
 
 // Cell i of the plan: of its tables, or what is saved, the three numbers and the ways behind them.
 fn cell_at<'a>(
-    rules: &'a [u64; 64],
-    children: &'a [u8; 512],
-    leaves: &'a [u64; 64],
-    lens: &'a [u32; 84],
+    rules: &'a PackedRules,
+    children: &'a Children,
+    leaves: &'a Leaves,
+    lens: &'a LengthCells,
     a: u16,
     heads: usize,
     count: usize,
@@ -259,7 +266,7 @@ fn cell_at<'a>(
 }
 
 // The plan of a grammar.
-pub fn prepare(grammar: GrammarTable) -> [u64; 3055]
+pub fn prepare(grammar: GrammarTable) -> Plan
     requires { ⌜ ((h : Grammar) × GoodRules h × (grammar ≡ grammarTable h)) ⌝ }
     ensures { λ r. ⌜ ((s : Sheet) → GoodRules (s .grammar) → grammar ≡ grammarTable (s .grammar) → Prepared s r) ⌝ }
 {
@@ -272,9 +279,9 @@ pub fn prepare(grammar: GrammarTable) -> [u64; 3055]
     let count = reached.count;
     let n = grammar.count;
     let heads = grammar.nonterminals as usize;
-    let mut plan = [0u64; 3055];
+    let mut plan = [0u64; PLAN_CELLS];
     let mut i: usize = 0;
-    while i < 3055 {
+    while i < PLAN_CELLS {
         plan[i] = cell_at(&rules, &children, &leaves, &lens, a, heads, count, n, i);
         i += 1;
     }

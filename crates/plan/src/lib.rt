@@ -18,6 +18,12 @@ use sheet::Units;
 pub use ways::NO_CELL;
 pub use ways::NONE;
 
+// The cells of the plan.
+pub const PLAN_CELLS: usize = 3055;
+
+// What the functions below read.
+pub type Plan = [u64; PLAN_CELLS];
+
 // How a rule divides an interval: into `arity` parts of the length with index `part`; arity 0 where it does not.
 pub struct Split {
     pub arity: usize,
@@ -31,7 +37,7 @@ pub struct Shape {
 }
 
 // The nonterminal of part j of rule r.
-pub fn child(plan: &[u64; 3055], r: usize, j: usize) -> usize
+pub fn child(plan: &Plan, r: usize, j: usize) -> usize
     requires { ⌜ (r < 64) × (j < 8) ⌝ }
     ensures { λ x. ⌜ x ≡ childCell (now (plan .entry)) r j ⌝ }
 {
@@ -39,7 +45,7 @@ pub fn child(plan: &[u64; 3055], r: usize, j: usize) -> usize
 }
 
 // The packed cell of the leaf rules of nonterminal q with this n: 64 × the least cost, or the cap, and the first rule that has it.
-pub fn leaf_cell(plan: &[u64; 3055], q: usize, n: usize) -> u64
+pub fn leaf_cell(plan: &Plan, q: usize, n: usize) -> u64
     requires { ⌜ (q < 16) × (n < 4) ⌝ }
     ensures { λ x. ⌜ x ≡ leafCell (now (plan .entry)) q n ⌝ }
 {
@@ -47,7 +53,7 @@ pub fn leaf_cell(plan: &[u64; 3055], q: usize, n: usize) -> u64
 }
 
 // The least cost of a leaf rule of nonterminal q with this n, or the cap.
-pub fn least_leaf(plan: &[u64; 3055], q: usize, n: usize) -> u64
+pub fn least_leaf(plan: &Plan, q: usize, n: usize) -> u64
     requires { ⌜ (q < 16) × (n < 4) ⌝ }
     ensures { λ x. ⌜ x ≡ leafCell (now (plan .entry)) q n / 64 ⌝ }
 {
@@ -56,7 +62,7 @@ pub fn least_leaf(plan: &[u64; 3055], q: usize, n: usize) -> u64
 
 // Where only part j of rule r has an onset, what the other parts and the rule add, packed: to cell 0 of the part to come to cell 0 of the
 // whole (i = 0), to its cell 1 to come to cell 0 (i = 1), and to its cell 1 to come to cell 1 (i = 2).
-pub fn way(plan: &[u64; 3055], r: usize, j: usize, i: usize) -> u64
+pub fn way(plan: &Plan, r: usize, j: usize, i: usize) -> u64
     requires { ⌜ (r < 64) × (j < 8) × (i < 3) ⌝ }
     ensures { λ x. ⌜ x ≡ wayCell (now (plan .entry)) r j i ⌝ }
 {
@@ -64,7 +70,7 @@ pub fn way(plan: &[u64; 3055], r: usize, j: usize, i: usize) -> u64
 }
 
 // The first rule that is a division of nonterminal q; the number of rules where there is none.
-pub fn first_division(plan: &[u64; 3055], q: usize) -> usize
+pub fn first_division(plan: &Plan, q: usize) -> usize
     requires { ⌜ q < 16 ⌝ }
     ensures { λ x. ⌜ x ≡ firstCell (now (plan .entry)) q ⌝ }
 {
@@ -72,7 +78,7 @@ pub fn first_division(plan: &[u64; 3055], q: usize) -> usize
 }
 
 // One past the last of them; 0 where there is none.
-pub fn last_division(plan: &[u64; 3055], q: usize) -> usize
+pub fn last_division(plan: &Plan, q: usize) -> usize
     requires { ⌜ q < 16 ⌝ }
     ensures { λ x. ⌜ x ≡ lastCell (now (plan .entry)) q ⌝ }
 {
@@ -80,7 +86,7 @@ pub fn last_division(plan: &[u64; 3055], q: usize) -> usize
 }
 
 // The most that a leaf is cheaper with c onsets carried in than with none.
-pub fn saved(plan: &[u64; 3055], c: usize) -> u64
+pub fn saved(plan: &Plan, c: usize) -> u64
     requires { ⌜ c < 4 ⌝ }
     ensures { λ x. ⌜ x ≡ savedCell (now (plan .entry)) c ⌝ }
 {
@@ -88,21 +94,21 @@ pub fn saved(plan: &[u64; 3055], c: usize) -> u64
 }
 
 // The number of nonterminals.
-pub fn nonterminals(plan: &[u64; 3055]) -> usize
+pub fn nonterminals(plan: &Plan) -> usize
     ensures { λ x. ⌜ x ≡ nonterminalsCell (now (plan .entry)) ⌝ }
 {
     plan[1517] as usize
 }
 
 // The number of lengths.
-pub fn length_count(plan: &[u64; 3055]) -> usize
+pub fn length_count(plan: &Plan) -> usize
     ensures { λ x. ⌜ x ≡ lengthsCell (now (plan .entry)) ⌝ }
 {
     plan[1518] as usize
 }
 
 // The length with index l.
-pub fn length(plan: &[u64; 3055], l: usize) -> Units
+pub fn length(plan: &Plan, l: usize) -> Units
     requires { ⌜ (l < 84) × ((s : Sheet) × Prepared s (now plan)) ⌝ }
     ensures { λ r. ⌜ r .0 ≡ lengthCell (now (plan .entry)) l ⌝ }
 {
@@ -110,7 +116,7 @@ pub fn length(plan: &[u64; 3055], l: usize) -> Units
 }
 
 // The multiplier times the weight of rule r; 0 where there is no rule.
-pub fn cost(plan: &[u64; 3055], r: usize) -> u64
+pub fn cost(plan: &Plan, r: usize) -> u64
     requires { ⌜ (r < 64) × ((s : Sheet) × Prepared s (now plan)) ⌝ }
     ensures { λ x. ⌜
         (x ≤ 4294836225) × ((s : Sheet) → Prepared s (now (plan .entry)) → x ≡ s .grammar .multiplier * weightAt s r)
@@ -133,7 +139,7 @@ pub fn cost(plan: &[u64; 3055], r: usize) -> u64
 }
 
 // What rule r is as a division: its head and its number of parts; arity 0 where it is none.
-pub fn shape_at(plan: &[u64; 3055], r: usize) -> Shape
+pub fn shape_at(plan: &Plan, r: usize) -> Shape
     requires { ⌜ r < 64 ⌝ }
     ensures { λ x. ⌜ ((s : Sheet) → Prepared s (now (plan .entry)) → ShapeAt s r x) ⌝ }
 {
@@ -156,7 +162,7 @@ pub fn shape_at(plan: &[u64; 3055], r: usize) -> Shape
 }
 
 // The length with index l in k parts; arity 0 where k is no arity or there is no such length.
-pub fn split_by(plan: &[u64; 3055], l: usize, k: usize) -> Split
+pub fn split_by(plan: &Plan, l: usize, k: usize) -> Split
     requires { ⌜ l < 84 ⌝ }
     ensures { λ x. ⌜ (x .arity ≤ 8) × ((s : Sheet) → Prepared s (now (plan .entry)) → PartsOf s l k x) ⌝ }
 {
@@ -177,7 +183,7 @@ pub fn split_by(plan: &[u64; 3055], l: usize, k: usize) -> Split
 }
 
 // How rule r divides an interval of nonterminal q and the length with index l.
-pub fn split_at(plan: &[u64; 3055], q: usize, l: usize, r: usize) -> Split
+pub fn split_at(plan: &Plan, q: usize, l: usize, r: usize) -> Split
     requires { ⌜ (r < 64) × (l < 84) ⌝ }
     ensures { λ x. ⌜ (x .arity ≤ 8) × ((s : Sheet) → Prepared s (now (plan .entry)) → l < lengths s → SplitAt s q l r x) ⌝ }
 {

@@ -6,8 +6,10 @@ ghost use Rattle.sheet.specs.Sheet.{Sheet};
 ghost use Rattle.trees.specs.ValidTrees.{weightAt};
 ghost use Rattle.plan.specs.Ways.{besideSum, beside};
 ghost use Rattle.plan.specs.Sections.{Small, Wide, PartBeside, DivisionHeld, WayIs, WayOf};
+use expansions::PackedRules;
 use expansions::rule_at;
 use expansions::token_of;
+use sheet::Children;
 use sheet::Rule;
 
 // What stands for "no tree", above every total.
@@ -15,6 +17,12 @@ pub const NONE: u64 = 1125899906842624;
 
 // The packed cell that no rule comes to: 64 × it.
 pub const NO_CELL: u64 = 72057594037927936;
+
+// The cells of the least leaves: four a nonterminal.
+pub const LEAF_CELLS: usize = 64;
+
+// The packed cell of the leaf rules of nonterminal q with each n, at 4 × q + n.
+pub type Leaves = [u64; LEAF_CELLS];
 
 // The smaller of two numbers.
 fn smaller(a: u64, b: u64) -> u64
@@ -24,7 +32,7 @@ fn smaller(a: u64, b: u64) -> u64
 }
 
 // What part i, of nonterminal q, costs beside part j, with an onset before it: as a leaf of n placed right behind it, of nothing elsewhere.
-fn leaf_beside(leaves: &[u64; 64], q: usize, i: usize, j: usize, n: usize) -> u64
+fn leaf_beside(leaves: &Leaves, q: usize, i: usize, j: usize, n: usize) -> u64
     requires { ⌜ (j < 8) × (n < 4) × Wide (now leaves) ⌝ }
     ensures { λ x. ⌜ (x < 288230376151711744) × PartBeside (now (leaves .entry)) q i j n x ⌝ }
 {
@@ -44,8 +52,8 @@ fn leaf_beside(leaves: &[u64; 64], q: usize, i: usize, j: usize, n: usize) -> u6
 
 // The sum over the k parts of rule r.
 fn beside_sum<'a>(
-    children: &'a [u8; 512],
-    leaves: &'a [u64; 64],
+    children: &'a Children,
+    leaves: &'a Leaves,
     r: usize,
     k: usize,
     j: usize,
@@ -70,8 +78,8 @@ fn beside_sum<'a>(
 
 // With what the rule costs, packed.
 fn beside_cell<'a>(
-    children: &'a [u8; 512],
-    leaves: &'a [u64; 64],
+    children: &'a Children,
+    leaves: &'a Leaves,
     cost: u64,
     r: usize,
     k: usize,
@@ -93,8 +101,8 @@ fn beside_cell<'a>(
 // Way i at part j of rule r, a division into k parts. Only the last part's onset can be carried out of the whole; another's is carried into
 // the part behind it.
 fn way_by<'a>(
-    children: &'a [u8; 512],
-    leaves: &'a [u64; 64],
+    children: &'a Children,
+    leaves: &'a Leaves,
     cost: u64,
     r: usize,
     k: usize,
@@ -126,9 +134,9 @@ fn way_by<'a>(
 
 // Way i at part j of rule r; 0 where the rule is no division.
 pub fn way_at<'a>(
-    rules: &'a [u64; 64],
-    children: &'a [u8; 512],
-    leaves: &'a [u64; 64],
+    rules: &'a PackedRules,
+    children: &'a Children,
+    leaves: &'a Leaves,
     a: u16,
     r: usize,
     j: usize,

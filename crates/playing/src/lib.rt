@@ -7,8 +7,12 @@ ghost use Rattle.sheet.specs.Reading.{playingRefusal, onsetForm, momentRefusal,
 ghost use Rattle.sheet.specs.Held.{playingTable, noPlaying};
 ghost use Rattle.sheet.specs.SoFar.{GoodSoFar};
 ghost use Rattle.playing.specs.Steps.{timingIn, runIn, OnsetStepOf, OnsetsRead, PlayingRead};
+use sheet::BAR_ONSETS_MOST;
+use sheet::BAR_UNITS;
+use sheet::BARS_MOST;
 use sheet::Line;
 use sheet::Micros;
+use sheet::ONSETS_MOST;
 use sheet::PlayingTable;
 use sheet::TimingTable;
 use sheet::Units;
@@ -42,8 +46,8 @@ pub struct Take {
 pub fn no_onsets(bars: u8) -> PlayingTable
     ensures { λ r. ⌜ r ≡ playingTable (noPlaying bars) ⌝ }
 {
-    let units = [Units(0); 512];
-    let pitches = [0u8; 512];
+    let units = [Units(0); ONSETS_MOST];
+    let pitches = [0u8; ONSETS_MOST];
     PlayingTable {
         bars,
         count: 0,
@@ -59,11 +63,11 @@ fn playing_refusal(l: Line) -> u8
     if l.count != 6 {
         return 4;
     }
-    let bars = l.bytes[1];
+    let bars = l.bytes[1] as usize;
     if bars < 1 {
         return 5;
     }
-    if 64 < bars {
+    if BARS_MOST < bars {
         return 5;
     }
     let d = four_at(l, 2);
@@ -117,10 +121,10 @@ fn moment_refusal(bars: u8, timing: TimingTable, last: Micros, moment: Micros) -
 fn room_refusal(count: usize, here: usize) -> u8
     ensures { λ r. ⌜ r ≡ roomRefusal count here ⌝ }
 {
-    if 512 <= count {
+    if ONSETS_MOST <= count {
         return 8;
     }
-    if 32 <= here {
+    if BAR_ONSETS_MOST <= here {
         return 8;
     }
     0
@@ -162,7 +166,7 @@ fn onset_step(bars: u8, timing: TimingTable, count: usize, latest: Latest, l: Li
         return refused_step(moment, latest);
     }
     let unit = unit_of(t, timing.duration);
-    let bar = unit.0 / 20160;
+    let bar = unit.0 / BAR_UNITS;
     let here = run_in(latest.bar, latest.run, bar);
     let room = room_refusal(count, here);
     if room != 0 {

@@ -10,6 +10,7 @@ use Rattle.derivations.specs.Reads.{Reads}
 use Rattle.derivations.specs.Reads as reading
 use Rattle.trees.specs.ValidTrees.{row, bars}
 use Rattle.trees.specs.Instance.{instanceOf}
+use Rattle.trees.specs.Room.{treeMost}
 use Rattle.expansions.specs.declared.Interval.{Interval}
 use Rattle.expansions.specs.Tables.{RulesHeld, UnitsHeld, lastUnit}
 use Rattle.expansions.specs.Items.{firstAt, itemOf}
@@ -23,10 +24,11 @@ pub record Lent (s : Sheet) (cells children units : List ℕ) : Type 0 where
   pub kids : children ≡ childCells (map partsOf (s .grammar .rules))
   pub onsets : UnitsHeld s units
 
--- The sums stay small: each rule read weighs at most 65,535, and each onset passed is at most a bar away. No tree is longer than 41,024.
+-- The sums stay small: each rule read weighs at most 65,535, and each onset passed is at most a bar away. No tree has more
+-- than `treeMost` nodes.
 pub record Sized (list : List ℕ) (p : Progress) : Type 0 where
   pub in-list : p .at ≤ length list
-  pub short : length list ≤ 41024
+  pub short : length list ≤ treeMost
   pub onsets : p .from ≤ 512
   pub few : p .carried ≤ 3
   pub weight : p .weight ≤ 65535 * p .at
@@ -45,9 +47,9 @@ progressBehind p passed carried weight distance =
 
 -- the sums fit
 pub record Room (p : Progress) (passed weight distance : ℕ) : Type 0 where
-  pub at : p .at ≤ 41024
+  pub at : p .at ≤ treeMost
   pub from : p .from + passed ≤ 512
-  pub weight-most : p .weight + weight ≤ 65535 * 41025
+  pub weight-most : p .weight + weight ≤ 65535 * (treeMost + 1)
   pub distance-most : p .distance + distance ≤ barUnits * 512
 
 -- read against `gs` from p on, the list gives a price, and n is what p comes to

@@ -10,12 +10,18 @@ ghost use Rattle.pricing.specs.Pricing.{priceSheet, pricedOf, Prices};
 ghost use Rattle.pricing.specs.Steps.{Room, progressBehind, ItemEntry, ItemWalked, RowEntry, RowWalked, BarsWalked};
 use expansions::Expansion;
 use expansions::Interval;
+use expansions::PackedRules;
+use expansions::PackedUnits;
 use expansions::expand;
 use expansions::pack_rules;
 use expansions::pack_units;
+use sheet::BAR_UNITS;
+use sheet::BARS_MOST;
 use sheet::GrammarTable;
+use sheet::PARTS_MOST;
 use sheet::PlayingTable;
 use sheet::Units;
+use sizes::ONSET_TREE_BYTES;
 
 // What pricing gives: a refusal with its number and its line, and zeros elsewhere; or number 0, line 0, node count, R, D and total.
 pub struct Priced {
@@ -59,9 +65,9 @@ fn behind(p: Progress, passed: usize, carried: usize, weight: u64, distance: u64
 
 // Reads the tree of a nonterminal over an interval off the list.
 fn read_tree<'a>(
-    rules: &'a [u64; 64],
+    rules: &'a PackedRules,
     children: &'a [u8],
-    units: &'a [u32; 513],
+    units: &'a PackedUnits,
     list: &'a [u8],
     nonterminal: u8,
     over: Interval,
@@ -92,7 +98,7 @@ fn read_tree<'a>(
                 left: Units(over.left.0),
                 len: Units(over.len.0 / arity),
             };
-            let from = 8 * (r as usize);
+            let from = PARTS_MOST * (r as usize);
             let kids = &children[from..from + (arity as usize)];
             let next = behind(p, 0, p.carried, weight, 0);
             read_row(rules, children, units, list, kids, first, next)
@@ -102,9 +108,9 @@ fn read_tree<'a>(
 
 // Reads the trees of intervals in a row, each under its own nonterminal, off the list; `first` is the first of the intervals.
 fn read_row<'a>(
-    rules: &'a [u64; 64],
+    rules: &'a PackedRules,
     children: &'a [u8],
-    units: &'a [u32; 513],
+    units: &'a PackedUnits,
     list: &'a [u8],
     kids: &'a [u8],
     first: Interval,
@@ -191,15 +197,15 @@ pub fn price_sheet(grammar: GrammarTable, playing: PlayingTable, list: &[u8]) ->
 {
     let nodes = list.len();
     let count = playing.bars as usize;
-    if count + 80 * playing.count < nodes {
+    if count + ONSET_TREE_BYTES * playing.count < nodes {
         return refused(12, 0);
     }
     let rules = pack_rules(grammar);
     let units = pack_units(playing);
-    let starts = [grammar.start; 64];
+    let starts = [grammar.start; BARS_MOST];
     let bar = Interval {
         left: Units(0),
-        len: Units(20160),
+        len: Units(BAR_UNITS),
     };
     let none = Progress {
         at: 0,

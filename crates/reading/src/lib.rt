@@ -14,6 +14,7 @@ use playing::no_onsets;
 use playing::read_playing;
 use sheet::Micros;
 use sheet::Reading;
+use sheet::TEXT_MOST;
 use sheet::TimingTable;
 use sheet::line_at;
 
@@ -73,7 +74,7 @@ fn read_lines(text: &[u8]) -> Reading
 pub fn read(text: &[u8]) -> Reading
     ensures { λ r. ⌜ Reads (now (text .entry)) r ⌝ }
 {
-    if 16384 < text.len() {
+    if TEXT_MOST < text.len() {
         return refused_at(1, 0);
     }
     let bad = hextext::bad_line(text);

@@ -3,6 +3,7 @@
 use case_text::behind;
 use case_text::place_of;
 use case_text::print;
+use sheet::ONSETS_MOST;
 use sheet::PlayingTable;
 use sheet::Reading;
 
@@ -14,7 +15,7 @@ fn wide(b: u8) -> u64 {
 fn print_onsets(p: PlayingTable) {
     let count = p.count;
     let mut i: usize = 0;
-    while i < 512 {
+    while i < ONSETS_MOST {
         let shown = i < 4 || i + 1 == count;
         if i < count && shown {
             let unit = p.units[i];

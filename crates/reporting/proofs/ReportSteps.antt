@@ -20,6 +20,7 @@ use Rattle.sheet.specs.Held.{readingOf}
 use Rattle.sheet.specs.Outcome.{Outcome, refused, accepted}
 use Rattle.sheet.specs.Accepted.{SheetHeld, on-refused, on-held}
 use Rattle.trees.specs.ValidTrees.{totalOf}
+use Rattle.trees.specs.Room.{treeMost}
 use Rattle.trees.specs.Theorems.{nodes-most}
 use Rattle.pricing.specs.declared.Priced.{Priced}
 use Rattle.pricing.specs.PricingLaws.{tree-priced}
@@ -32,7 +33,7 @@ use Rattle.finding.specs.FindingLaws.{TreeHandedBack, tree-handed-back}
 use Rattle.reporting.specs.declared.Shown.{Shown}
 use Rattle.reporting.specs.declared.Shown.the-variants.{Score, Line}
 use Rattle.reporting.specs.Reporting.{refusalLine, treeWith, Prints, Printed, Reports}
-use Rattle.reporting.specs.Restoring.{treeMost, restored}
+use Rattle.reporting.specs.Restoring.{restored}
 use Rattle.reporting.specs.ReportingLaws.{within-lines, within-short, prints}
 
 -- ---- `refusal_line`

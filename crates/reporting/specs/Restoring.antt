@@ -5,10 +5,6 @@ use Rattle.slices.specs.Over.{over}
 use Rattle.reporting.specs.declared.Shown.{Shown}
 use Rattle.reporting.specs.declared.Shown.the-variants.{Score, Line}
 
--- the most bytes that a tree has (`nodes-most`): one for each of 64 bars and 80 for each of 512 onsets
-abbrev pub treeMost : ℕ
-treeMost = 41024
-
 -- the tree slice after an answer: score lines leave it as it is, and with a refusal `front`, what stood there before, is put back
 abbrev pub restored : Shown → (front tree : List ℕ) → List ℕ
 restored (Score n) front tree = tree

@@ -4,24 +4,23 @@ ghost use Prim.Native.Nat.{_≤_, _<_};
 ghost use lib.ListN.{length, take};
 ghost use Rattle.sheet.specs.Sheet.{Sheet};
 ghost use Rattle.sheet.specs.Accepted.{SheetHeld};
+ghost use Rattle.trees.specs.Room.{treeMost};
 ghost use Rattle.finding.specs.Finding.{findSheet};
 ghost use Rattle.reporting.specs.declared.Shown.the-variants.{Line};
 ghost use Rattle.reporting.specs.Reporting.{refusalLine, Printed, Reports};
-ghost use Rattle.reporting.specs.Restoring.{treeMost, restored};
+ghost use Rattle.reporting.specs.Restoring.{restored};
 use finding::find_sheet;
 use hextext::put_field;
 use score::write_priced;
 use search::copy;
 use sheet::GrammarTable;
 use sheet::PlayingTable;
+pub use sizes::TREE_BYTES_MOST;
 
 // The bytes of a refusal's line: four as pairs, and 0A.
 pub const REFUSAL_LINE_BYTES: usize = 9;
 
 pub type RefusalLine = [u8; REFUSAL_LINE_BYTES];
-
-// The most bytes that a tree has: one for each of 64 bars and 80 for each of 512 onsets.
-pub const TREE_BYTES_MOST: usize = 41024;
 
 // The length of the program's work slice.
 pub const WORK_CELLS: usize = 8192;

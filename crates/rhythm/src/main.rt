@@ -5,9 +5,10 @@ use reporting::SCORE_BYTES;
 use reporting::Shown;
 use reporting::TREE_BYTES_MOST;
 use reporting::WORK_CELLS;
+use sheet::TEXT_MOST;
 
 // One byte more than a sheet may have.
-const TEXT_BYTES: usize = 16385;
+const TEXT_BYTES: usize = TEXT_MOST + 1;
 
 fn main() {
     let mut text = [0u8; TEXT_BYTES];

@@ -18,7 +18,9 @@ use crate::slots::place_of;
 use crate::slots::store;
 use crate::vector::NO_CELL;
 use crate::vector::least;
+use expansions::PackedUnits;
 use expansions::token_of;
+use plan::Plan;
 use plan::child;
 use plan::first_division;
 use plan::last_division;
@@ -36,8 +38,8 @@ pub struct Pair {
 
 // Whether nothing is carried in and the onset at place `from` is the only one inside.
 pub fn alone<'a>(
-    plan: &'a [u64; 3055],
-    units: &'a [u32; 513],
+    plan: &'a Plan,
+    units: &'a PackedUnits,
     l: usize,
     left: Units,
     from: usize,
@@ -60,7 +62,7 @@ pub fn alone<'a>(
 }
 
 // A leaf of nonterminal q, with an onset before it, whose only onset is d behind its left bound.
-pub fn leaf_one(plan: &[u64; 3055], q: usize, len: Units, d: Units) -> Pair
+pub fn leaf_one(plan: &Plan, q: usize, len: Units, d: Units) -> Pair
     requires { ⌜ (q < 16) × (d .0 ≤ len .0) × (len .0 ≤ lastUnit) × ((s : Sheet) × Prepared s (now plan)) ⌝ }
     ensures { λ x. ⌜ LeafOne (now (plan .entry)) q (len .0) (d .0) x ⌝ }
 {
@@ -84,7 +86,7 @@ pub fn leaf_one(plan: &[u64; 3055], q: usize, len: Units, d: Units) -> Pair
 }
 
 // What rule r comes to where only its part j has an onset, of which y are cells 0 and 1.
-pub fn by_way(plan: &[u64; 3055], r: usize, j: usize, y: Pair) -> Pair
+pub fn by_way(plan: &Plan, r: usize, j: usize, y: Pair) -> Pair
     requires { ⌜ ((s : Sheet) × WayEntry s (now plan) r j y) ⌝ }
     ensures { λ x. ⌜ x ≡ byWay (now (plan .entry)) r j y ⌝ }
 {
@@ -97,8 +99,8 @@ pub fn by_way(plan: &[u64; 3055], r: usize, j: usize, y: Pair) -> Pair
 
 // Solves the row of an item with one onset inside, from carry state 0, and stores it at its place.
 pub fn solve_one<'a>(
-    plan: &'a [u64; 3055],
-    units: &'a [u32; 513],
+    plan: &'a Plan,
+    units: &'a PackedUnits,
     rows: &mut [u64],
     bar: Bar,
     q: usize,
@@ -144,8 +146,8 @@ pub fn solve_one<'a>(
 
 // One rule more of an item whose only onset is d behind its left bound: rule r, with parts of the length with index l.
 fn rule_one<'a>(
-    plan: &'a [u64; 3055],
-    units: &'a [u32; 513],
+    plan: &'a Plan,
+    units: &'a PackedUnits,
     rows: &mut [u64],
     bar: Bar,
     r: usize,
@@ -176,8 +178,8 @@ fn rule_one<'a>(
 
 // Cells 0 and 1 of the row of a part with one onset inside, from carry state 0.
 fn part_one<'a>(
-    plan: &'a [u64; 3055],
-    units: &'a [u32; 513],
+    plan: &'a Plan,
+    units: &'a PackedUnits,
     rows: &mut [u64],
     bar: Bar,
     q: usize,

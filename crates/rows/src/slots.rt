@@ -11,6 +11,8 @@ ghost use Rattle.expansions.specs.Items.{firstAt};
 ghost use Rattle.rows.specs.Vectors.{LowCells};
 ghost use Rattle.rows.specs.Memo.{MARK, rowAt, stored};
 ghost use Rattle.rows.specs.Slots.{slotIn, SlotEntry};
+use expansions::PackedUnits;
+use plan::Plan;
 use plan::length_count;
 use plan::nonterminals;
 use sheet::Units;
@@ -57,7 +59,7 @@ pub fn store(rows: &mut [u64], at: usize, v: [u64; 4], stamp: u64)
 }
 
 // The place of the first onset at or behind `right`, where `from` is that of one before it.
-pub fn first_behind(units: &[u32; 513], from: usize, right: Units) -> usize
+pub fn first_behind(units: &PackedUnits, from: usize, right: Units) -> usize
     requires { ⌜
         ((s : Sheet) × (left : ℕ) × UnitsHeld s (now units) × (from ≡ firstAt s left) × (left ≤ right .0)
         × (right .0 ≤ lastUnit))
@@ -76,7 +78,7 @@ pub fn first_behind(units: &[u32; 513], from: usize, right: Units) -> usize
 }
 
 // The place of the row of an item in the table.
-pub fn place_of(plan: &[u64; 3055], bar: Bar, q: usize, l: usize, from: usize, c: usize) -> usize
+pub fn place_of(plan: &Plan, bar: Bar, q: usize, l: usize, from: usize, c: usize) -> usize
     requires { ⌜ ((s : Sheet) × SlotEntry s (now plan) bar q l from c) ⌝ }
     ensures { λ r. ⌜
         ((s : Sheet) → SlotEntry s (now (plan .entry)) bar q l from c → r ≡ 4 * slotIn s (bar .number) q l (from - bar .first) c)

@@ -31,8 +31,10 @@ use crate::vector::relax;
 use crate::vector::relax_rule;
 use crate::vector::totals;
 use expansions::Interval;
+use expansions::PackedUnits;
 use expansions::place;
 use expansions::token_of;
+use plan::Plan;
 use plan::child;
 use plan::cost;
 use plan::first_division;
@@ -46,8 +48,8 @@ use sheet::Units;
 
 // The packed cells of a leaf over an interval, by carry state behind it. More than three late onsets are no carry state.
 pub fn leaf_row<'a>(
-    plan: &'a [u64; 3055],
-    units: &'a [u32; 513],
+    plan: &'a Plan,
+    units: &'a PackedUnits,
     q: usize,
     over: Interval,
     from: usize,
@@ -73,7 +75,7 @@ pub fn leaf_row<'a>(
 
 // Whether carry state c lowers nothing, where `zero` and `a` are the totals to 0 and to c: it is not reached, or carrying nothing is
 // cheaper by more than all that c can save. (By as much would do for totals, but could lose the first tree.)
-fn idle_at(plan: &[u64; 3055], zero: u64, a: u64, c: usize) -> bool
+fn idle_at(plan: &Plan, zero: u64, a: u64, c: usize) -> bool
     requires { ⌜ (c < 4) × (zero ≤ NONE) × ((s : Sheet) × Prepared s (now plan)) ⌝ }
     ensures { λ r. ⌜
         ((s : Sheet) (v : List ℕ) → Prepared s (now (plan .entry)) → zero ≡ getD v 0 0 → a ≡ getD v c 0 → r ≡ true
@@ -93,7 +95,7 @@ fn idle_at(plan: &[u64; 3055], zero: u64, a: u64, c: usize) -> bool
 }
 
 // The same of a vector.
-pub fn idle(plan: &[u64; 3055], v: [u64; 4], c: usize) -> bool
+pub fn idle(plan: &Plan, v: [u64; 4], c: usize) -> bool
     requires { ⌜ (c < 4) × Low v × ((s : Sheet) × Prepared s (now plan)) ⌝ }
     ensures { λ r. ⌜ ((s : Sheet) → Prepared s (now (plan .entry)) → r ≡ true → Idle s (λ i. getD v i 0) c) ⌝ }
 {
@@ -102,8 +104,8 @@ pub fn idle(plan: &[u64; 3055], v: [u64; 4], c: usize) -> bool
 
 // The row of an item from carry state c. Without an onset inside it is a leaf of what is carried in, and nothing is carried on.
 pub fn cells<'a>(
-    plan: &'a [u64; 3055],
-    units: &'a [u32; 513],
+    plan: &'a Plan,
+    units: &'a PackedUnits,
     rows: &mut [u64],
     bar: Bar,
     q: usize,
@@ -132,8 +134,8 @@ pub fn cells<'a>(
 
 // Solves the row of an item with an onset inside: the short way where it is the only one and nothing is carried in.
 fn fresh<'a>(
-    plan: &'a [u64; 3055],
-    units: &'a [u32; 513],
+    plan: &'a Plan,
+    units: &'a PackedUnits,
     rows: &mut [u64],
     bar: Bar,
     q: usize,
@@ -159,8 +161,8 @@ fn fresh<'a>(
 // Solves the row of an item with an onset inside, and stores it at its place. Rules before the first division of the nonterminal or behind
 // the last are not met.
 fn solve<'a>(
-    plan: &'a [u64; 3055],
-    units: &'a [u32; 513],
+    plan: &'a Plan,
+    units: &'a PackedUnits,
     rows: &mut [u64],
     bar: Bar,
     q: usize,
@@ -201,8 +203,8 @@ fn solve<'a>(
 
 // What the parts of rule r total from part i on, which begins at `left`, from carry state c to each: k parts of the length with index l.
 pub fn parts<'a>(
-    plan: &'a [u64; 3055],
-    units: &'a [u32; 513],
+    plan: &'a Plan,
+    units: &'a PackedUnits,
     rows: &mut [u64],
     bar: Bar,
     r: usize,
@@ -238,7 +240,7 @@ pub fn parts<'a>(
 }
 
 // The least cost of a leaf rule of nonterminal q for c onsets placed, where `before` lie before the leaf, or the cap.
-fn least_placed(plan: &[u64; 3055], q: usize, c: usize, before: usize) -> u64
+fn least_placed(plan: &Plan, q: usize, c: usize, before: usize) -> u64
     requires { ⌜ q < 16 ⌝ }
     ensures { λ x. ⌜ x ≡ leafCell (now (plan .entry)) q (token c before) / 64 ⌝ }
 {
@@ -249,8 +251,8 @@ fn least_placed(plan: &[u64; 3055], q: usize, c: usize, before: usize) -> u64
 // The vector v, taken over one part; `to` is the place of the first onset behind it. The totals to the carry states move up one by one, so
 // that none is looked up by its index.
 fn part<'a>(
-    plan: &'a [u64; 3055],
-    units: &'a [u32; 513],
+    plan: &'a Plan,
+    units: &'a PackedUnits,
     rows: &mut [u64],
     bar: Bar,
     q: usize,
@@ -312,8 +314,8 @@ fn reached(v: [u64; 4]) -> usize
 
 // One carry state more of a part with an onset inside, where `zero` and `a` are the totals to 0 and to c; an idle one is left out.
 fn lift<'a>(
-    plan: &'a [u64; 3055],
-    units: &'a [u32; 513],
+    plan: &'a Plan,
+    units: &'a PackedUnits,
     rows: &mut [u64],
     bar: Bar,
     q: usize,

@@ -18,6 +18,7 @@ use Rattle.sheet.specs.Reading.{readSheet}
 use Rattle.sheet.specs.Held.{readingOf}
 use Rattle.trees.specs.ValidTrees.{ValidTree, totalOf}
 use Rattle.trees.specs.ValidTrees as trees
+use Rattle.trees.specs.Room.{treeMost}
 use Rattle.trees.specs.Theorems.{nodes-most}
 use Rattle.expansions.specs.Tables.{PackedRules, RulesHeld}
 use Rattle.pricing.specs.declared.Priced.{Priced}
@@ -95,7 +96,7 @@ module _ {s : Sheet} {g : GrammarTable} {p : PlayingTable} {list : List ℕ} {r 
   onsets-are = ap (λ (x : PlayingTable). x .count) (h .playing)
 
   -- the counts are small
-  pub few-leaves : (leaves ≤ 41024) × (p .count ≤ 512)
+  pub few-leaves : (leaves ≤ treeMost) × (p .count ≤ 512)
   few-leaves = (
     omega (arith, leaves-are, leaf-rules-most s list, nodes-most s (h .good) list (t .valid)),
     omega (arith, onsets-are, h .good .onsets .most),

@@ -4,6 +4,7 @@ ghost use Prim.Native.Nat.{_≤_};
 ghost use lib.ListN.{length};
 ghost use Rattle.sheet.specs.Sheet.{Sheet};
 ghost use Rattle.sheet.specs.Accepted.{SheetHeld};
+ghost use Rattle.trees.specs.Room.{treeMost};
 ghost use Rattle.score.specs.ScoreLaws.{textSize};
 ghost use Rattle.score.specs.LeafRules.{leafOne, leafRules};
 ghost use Rattle.sheet.specs.Outcome as outcome;
@@ -14,6 +15,7 @@ ghost use Rattle.score.specs.Steps.{TextEntry, TextWritten, PricedEntry}
 mod line;
 mod tree;
 
+use expansions::PackedRules;
 use expansions::pack_rules;
 use expansions::pack_units;
 use expansions::rule_at;
@@ -21,6 +23,7 @@ use line::head_line;
 use pricing::Priced;
 use sheet::GrammarTable;
 use sheet::PlayingTable;
+use sheet::RULES_MOST;
 use sheet::Rule;
 use tree::write_bars;
 
@@ -32,11 +35,11 @@ pub struct Written {
 }
 
 // 1 for a leaf rule, 0 for any other number.
-fn leaf_one(rules: &[u64; 64], r: u8) -> usize
+fn leaf_one(rules: &PackedRules, r: u8) -> usize
     ensures { λ x. ⌜ (x ≤ 1) × ((s : Sheet) → RulesHeld s (now (rules .entry)) → x ≡ leafOne s r) ⌝ }
 {
     let i = r as usize;
-    if 64 <= i {
+    if RULES_MOST <= i {
         return 0;
     }
     let rule = rule_at(rules, i);
@@ -55,7 +58,7 @@ fn leaf_one(rules: &[u64; 64], r: u8) -> usize
 }
 
 // How many numbers of a list are leaf rules.
-fn count_leaves(rules: &[u64; 64], list: &[u8]) -> usize
+fn count_leaves(rules: &PackedRules, list: &[u8]) -> usize
     ensures { λ x. ⌜ ((s : Sheet) → RulesHeld s (now (rules .entry)) → x ≡ leafRules s (now (list .entry))) ⌝ }
 {
     let mut leaves: usize = 0;
@@ -70,7 +73,7 @@ fn count_leaves(rules: &[u64; 64], list: &[u8]) -> usize
 
 // Writes the score lines of a valid tree with its R, D and total; gives the number of bytes.
 fn write_text<'a>(
-    rules: &'a [u64; 64],
+    rules: &'a PackedRules,
     playing: PlayingTable,
     list: &'a [u8],
     weight: u64,
@@ -102,7 +105,7 @@ fn refused(number: u8, line: usize) -> Written
 
 // The length of a tree's score lines, by the numbers of its leaves and of the sheet's onsets.
 fn text_size(leaves: usize, onsets: usize) -> usize
-    requires { ⌜ (leaves ≤ 41024) × (onsets ≤ 512) ⌝ }
+    requires { ⌜ (leaves ≤ treeMost) × (onsets ≤ 512) ⌝ }
     ensures { λ r. ⌜ r ≡ textSize leaves onsets ⌝ }
 {
     53 + 19 * leaves + 2 * onsets

@@ -7,15 +7,19 @@ ghost use Rattle.score.specs.Score.{headLine, leafFront, leafLine};
 ghost use Rattle.score.specs.Steps.{leafOver, LineHeld};
 use expansions::Interval;
 use hextext::put_field;
+use sheet::Pitches;
+
+// The head's line: its kind, the bars, and three numbers of eight bytes.
+pub const HEAD_LINE_BYTES: usize = 26;
 
 // A leaf's line has nine bytes and the pitches placed there, 35 at most.
 pub const LEAF_LINE_MOST: usize = 44;
 
 // The bytes of the head.
-pub fn head_line(bars: u8, total: u64, weight: u64, distance: u64) -> [u8; 26]
+pub fn head_line(bars: u8, total: u64, weight: u64, distance: u64) -> [u8; HEAD_LINE_BYTES]
     ensures { λ r. ⌜ r ≡ headLine bars total weight distance ⌝ }
 {
-    let mut line = [0u8; 26];
+    let mut line = [0u8; HEAD_LINE_BYTES];
     line[0] = 0x54;
     line[1] = bars;
     put_field(&mut line, 2, 8, total);
@@ -40,7 +44,7 @@ fn leaf_front(line: &mut [u8], over: Interval, n: u8, placed: usize)
 // `first` on, at most 35. The line is lent, since copying it costs as much as a part of writing its text.
 pub fn leaf_line(
     line: &mut [u8],
-    pitches: &[u8; 512],
+    pitches: &Pitches,
     over: Interval,
     n: u8,
     first: usize,

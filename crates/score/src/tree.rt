@@ -8,8 +8,12 @@ ghost use Rattle.score.specs.Steps.{LeafEntry, LeafWritten, TreeEntry, T
 use crate::line::LEAF_LINE_MOST;
 use crate::line::leaf_line;
 use expansions::Interval;
+use expansions::PackedRules;
+use expansions::PackedUnits;
 use expansions::place;
 use expansions::rule_at;
+use sheet::BAR_UNITS;
+use sheet::Pitches;
 use sheet::Rule;
 use sheet::Units;
 
@@ -24,8 +28,8 @@ pub struct Place {
 
 // Writes the line of a leaf whose rule stands before place p.
 fn write_leaf<'a>(
-    units: &'a [u32; 513],
-    pitches: &'a [u8; 512],
+    units: &'a PackedUnits,
+    pitches: &'a Pitches,
     over: Interval,
     n: u8,
     p: Place,
@@ -58,9 +62,9 @@ fn write_leaf<'a>(
 
 // Writes the lines of the leaves of the tree over an interval; its rules stand in the list from place p on.
 fn write_tree<'a>(
-    rules: &'a [u64; 64],
-    units: &'a [u32; 513],
-    pitches: &'a [u8; 512],
+    rules: &'a PackedRules,
+    units: &'a PackedUnits,
+    pitches: &'a Pitches,
     list: &'a [u8],
     over: Interval,
     p: Place,
@@ -113,9 +117,9 @@ fn write_tree<'a>(
 
 // Writes the lines of the leaves of all bars, from place `to` of the score on; gives the place behind them.
 pub fn write_bars<'a>(
-    rules: &'a [u64; 64],
-    units: &'a [u32; 513],
-    pitches: &'a [u8; 512],
+    rules: &'a PackedRules,
+    units: &'a PackedUnits,
+    pitches: &'a Pitches,
     list: &'a [u8],
     bars: u8,
     to: usize,
@@ -136,8 +140,8 @@ pub fn write_bars<'a>(
     let mut b: u32 = 0;
     while b < n {
         let bar = Interval {
-            left: Units(20160 * b),
-            len: Units(20160),
+            left: Units(BAR_UNITS * b),
+            len: Units(BAR_UNITS),
         };
         let further = write_tree(rules, units, pitches, list, bar, next, score);
         next = further;

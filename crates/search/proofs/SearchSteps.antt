@@ -21,7 +21,7 @@ use Rattle.derivations.specs.Bound.{nodes-bound}
 use Rattle.trees.specs.ValidTrees.{bars}
 use Rattle.trees.specs.Instance.{instanceOf}
 use Rattle.trees.specs.LeastTotal.{leastTotal}
-use Rattle.trees.specs.Room.{room, room-pays, bars-room}
+use Rattle.trees.specs.Room.{treeMost, room, room-pays, bars-room}
 use Rattle.trees.specs.Found.{first-is-tree, first-total-is}
 use Rattle.sizes.specs.Sizes.{largest, mostInBar, treeBytes, workCells}
 use Rattle.sizes.specs.SizesLaws.{length-count-least, length-count-most, most-in-bar-most}
@@ -42,13 +42,13 @@ module _ {s : Sheet} {plan us rows tree : List ℕ} {start count : ℕ} (h : Par
   bars-few = omega (arith, h .count-is, h .onsets .good .sixty-four)
 
   -- no sheet needs a longer tree
-  tree-most : treeBytes s ≤ 41024
+  tree-most : treeBytes s ≤ treeMost
   unfolding treeBytes
   tree-most = omega (arith, h .onsets .good .sixty-four, h .onsets .good .most)
 
   -- a table of zeros claims nothing
   pub parse-forward : {now order bytes roots vectors : List ℕ} {n : ℕ} → n ≡ length rows → Table (λ _. 0) rows now n → ByArity s order
-      → length roots ≡ 1024 → length vectors ≡ 260 → length bytes ≡ 41024
+      → length roots ≡ 1024 → length vectors ≡ 260 → length bytes ≡ treeMost
       → ForwardEntry s plan us order now bytes roots vectors start count
   parse-forward {now} en t ordered er ev eb = record {
     entry = record {

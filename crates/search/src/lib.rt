@@ -15,9 +15,12 @@ ghost use Rattle.search.specs.Search.{BeforeEntry, BeforeAs, BackEntry, 
 ghost use Rattle.search.specs.Search.{ForwardEntry, FoundIn, ParseEntry, FoundAs};
 ghost use Rattle.search.specs.Search.{rowCells, RowCellsEntry, SearchEntry, Searched};
 use building::build;
+use expansions::PackedUnits;
 use expansions::pack_units;
+use filling::Order;
 use filling::by_arity;
 use filling::fill_bar;
+use plan::Plan;
 use plan::length_count;
 use plan::nonterminals;
 use plan::prepare;
@@ -33,10 +36,20 @@ use rows::vector::dot;
 use rows::vector::only_at;
 use rows::vector::relax;
 use rows::vector::totals;
+use sheet::BAR_UNITS;
+use sheet::BARS_MOST;
 use sheet::GrammarTable;
 use sheet::PlayingTable;
 use sheet::Units;
+use sizes::ITEM_CELLS;
+use sizes::TREE_BYTES_MOST;
 use sizes::most_in_bar;
+
+// The cells of the rows of all bars.
+const ROOT_CELLS: usize = ITEM_CELLS * BARS_MOST;
+
+// The cells of the vectors, four before each bar and four behind the last.
+const VECTOR_CELLS: usize = 4 * (BARS_MOST + 1);
 
 // What the search gives: there is no tree, or how many bytes the tree has and what it totals.
 pub enum Found {
@@ -57,11 +70,11 @@ fn clear(cells: &mut [u64], n: usize)
 }
 
 // Bar b, of whose rows the table has so many slots.
-fn enter(units: &[u32; 513], b: usize, slots: usize) -> Bar
+fn enter(units: &PackedUnits, b: usize, slots: usize) -> Bar
     requires { ⌜ ((s : Sheet) × EnterEntry s (now units) b slots) ⌝ }
     ensures { λ r. ⌜ ((s : Sheet) → EnterEntry s (now (units .entry)) b slots → r ≡ barOf s b) ⌝ }
 {
-    let lo = 20160 * (b as u32);
+    let lo = BAR_UNITS * (b as u32);
     let first = first_behind(units, 0, Units(lo));
     Bar {
         number: b,
@@ -73,8 +86,8 @@ fn enter(units: &[u32; 513], b: usize, slots: usize) -> Bar
 
 // The row of a bar from carry state c, where v is the vector before it; no tree where c is idle.
 fn root_row<'a>(
-    plan: &'a [u64; 3055],
-    units: &'a [u32; 513],
+    plan: &'a Plan,
+    units: &'a PackedUnits,
     rows: &mut [u64],
     bar: Bar,
     start: usize,
@@ -90,14 +103,14 @@ fn root_row<'a>(
     if idle(plan, v, c) {
         return [NO_CELL; 4];
     }
-    let lo = 20160 * (bar.number as u32);
+    let lo = BAR_UNITS * (bar.number as u32);
     cells(plan, units, rows, bar, start, 0, Units(lo), bar.first, c)
 }
 
 // Stores the rows of a bar from each carry state; gives the vector behind it.
 fn pass<'a>(
-    plan: &'a [u64; 3055],
-    units: &'a [u32; 513],
+    plan: &'a Plan,
+    units: &'a PackedUnits,
     rows: &mut [u64],
     roots: &mut [u64],
     bar: Bar,
@@ -112,7 +125,7 @@ fn pass<'a>(
         → RootsTo s (now (roots .entry)) (bar .number) 0 → PassedBar s (now (rows .exit)) (now (roots .exit)) (bar .number) w)
         ⌝ }
 {
-    let at = 16 * bar.number;
+    let at = ITEM_CELLS * bar.number;
     let mut o = [NONE; 4];
     let mut c: usize = 0;
     while c < 4 {
@@ -126,7 +139,7 @@ fn pass<'a>(
 }
 
 // Whether every least tree carries nothing over the bar line, where v is the vector before it.
-fn closed(plan: &[u64; 3055], v: [u64; 4]) -> bool
+fn closed(plan: &Plan, v: [u64; 4]) -> bool
     requires { ⌜ Low v × ((s : Sheet) × Prepared s (now plan)) ⌝ }
     ensures { λ r. ⌜ ((s : Sheet) → Prepared s (now (plan .entry)) → r ≡ true → Closed s v) ⌝ }
 {
@@ -148,7 +161,7 @@ fn before(roots: &[u64], b: usize, v: [u64; 4]) -> [u64; 4]
     requires { ⌜ ((s : Sheet) × (e : ℕ) × BeforeEntry s (now roots) e b v) ⌝ }
     ensures { λ w. ⌜ ((s : Sheet) (e : ℕ) → BeforeEntry s (now (roots .entry)) e b v → BeforeAs (now (roots .entry)) b v w) ⌝ }
 {
-    let at = 16 * b;
+    let at = ITEM_CELLS * b;
     [
         dot(totals(load(roots, at)), v),
         dot(totals(load(roots, at + 4)), v),
@@ -178,8 +191,8 @@ fn backward<'a>(roots: &'a [u64], vectors: &mut [u64], from: usize, end: usize)
 
 // Writes the first least lists of these bars, one behind the other, from byte `n` on; gives the number of bytes with those before.
 fn build_bars<'a>(
-    plan: &'a [u64; 3055],
-    units: &'a [u32; 513],
+    plan: &'a Plan,
+    units: &'a PackedUnits,
     rows: &mut [u64],
     tree: &mut [u8],
     vectors: &'a [u64],
@@ -204,8 +217,8 @@ fn build_bars<'a>(
     let mut b = from;
     while b < end {
         let bar = enter(units, b, slots);
-        let y = load(roots, 16 * b + 4 * carry);
-        let lo = 20160 * (b as u32);
+        let y = load(roots, ITEM_CELLS * b + 4 * carry);
+        let lo = BAR_UNITS * (b as u32);
         b += 1;
         let v = load(vectors, 4 * b);
         let built = build(
@@ -232,8 +245,8 @@ fn build_bars<'a>(
 // Builds the bars from bar `from` on that are before bar `end`, where no least tree carries anything into the first of them or on from the
 // last: with n bytes before them; gives the number of bytes.
 fn settle<'a>(
-    plan: &'a [u64; 3055],
-    units: &'a [u32; 513],
+    plan: &'a Plan,
+    units: &'a PackedUnits,
     rows: &mut [u64],
     tree: &mut [u8],
     vectors: &mut [u64],
@@ -270,9 +283,9 @@ fn settle<'a>(
 // Finds the first least tree, bar after bar. Where nothing is carried over a bar line, the bars before it are built at once, while the
 // table has their rows.
 fn forward<'a>(
-    plan: &'a [u64; 3055],
-    units: &'a [u32; 513],
-    order: &'a [u64; 80],
+    plan: &'a Plan,
+    units: &'a PackedUnits,
+    order: &'a Order,
     rows: &mut [u64],
     tree: &mut [u8],
     roots: &mut [u64],
@@ -350,8 +363,8 @@ pub fn copy(from: &[u8], to: &mut [u8], n: usize)
 // Finds the first least tree, with so many rows as the sheet needs. It is made aside and copied, since a tree that is not found leaves the
 // tree slice as it is.
 fn parse<'a>(
-    plan: &'a [u64; 3055],
-    units: &'a [u32; 513],
+    plan: &'a Plan,
+    units: &'a PackedUnits,
     rows: &mut [u64],
     tree: &mut [u8],
     start: usize,
@@ -365,9 +378,9 @@ fn parse<'a>(
 {
     let n = rows.len();
     clear(rows, n);
-    let mut roots = [0u64; 1024];
-    let mut vectors = [0u64; 260];
-    let mut bytes = [0u8; 41024];
+    let mut roots = [0u64; ROOT_CELLS];
+    let mut vectors = [0u64; VECTOR_CELLS];
+    let mut bytes = [0u8; TREE_BYTES_MOST];
     let order = by_arity(plan);
     let found = forward(
         plan,
@@ -390,11 +403,11 @@ fn parse<'a>(
 }
 
 // How many cells the rows take, four a slot, where `most` is the largest number of onsets in a bar.
-fn row_cells(plan: &[u64; 3055], most: usize) -> usize
+fn row_cells(plan: &Plan, most: usize) -> usize
     requires { ⌜ ((s : Sheet) × RowCellsEntry s (now plan) most) ⌝ }
     ensures { λ n. ⌜ ((s : Sheet) → RowCellsEntry s (now (plan .entry)) most → n ≡ rowCells s) ⌝ }
 {
-    16 * (nonterminals(plan) * length_count(plan) * most)
+    ITEM_CELLS * (nonterminals(plan) * length_count(plan) * most)
 }
 
 // Finds the first least tree of a sheet and writes it to the front of the tree slice. The required cells of the work slice are 0 at the
@@ -417,6 +430,6 @@ pub fn least_tree(
     let count = playing.bars as usize;
     let cells = row_cells(&plan, most_in_bar(playing));
     let found = parse(&plan, &units, &mut work[..cells], tree, start, count);
-    clear(work, cells + 16 * count);
+    clear(work, cells + ITEM_CELLS * count);
     found
 }

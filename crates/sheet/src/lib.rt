@@ -1,12 +1,25 @@
 // A sheet: its meaning in specs/, and here the tables that hold it, the two clocks with the one conversion between them, and the fields of
 // a line.
 mod clock;
+mod limits;
 mod line;
 mod table;
 
+pub use clock::BAR_UNITS;
 pub use clock::Micros;
+pub use clock::PIECE_UNITS;
 pub use clock::Units;
 pub use clock::unit_of;
+pub use limits::BAR_ONSETS_MOST;
+pub use limits::BARS_MOST;
+pub use limits::CHILD_CELLS;
+pub use limits::Children;
+pub use limits::LINE_BYTES;
+pub use limits::ONSETS_MOST;
+pub use limits::PARTS_MOST;
+pub use limits::Pitches;
+pub use limits::RULES_MOST;
+pub use limits::TEXT_MOST;
 pub use line::Line;
 pub use line::Taken;
 pub use line::four_at;

@@ -3,11 +3,12 @@ ghost use mathlib.Core.Path.{_≡_};
 ghost use Prim.Native.Nat.{_+_, _<_};
 ghost use Rattle.sheet.specs.Reading.{two, four};
 ghost use Rattle.sheet.specs.Held.{LineTaken};
+use crate::limits::LINE_BYTES;
 
 // How many bytes a line has, and the first 16 of them, with 0 in the places that are left. No kind of line has more than 13.
 pub struct Line {
     pub count: usize,
-    pub bytes: [u8; 16],
+    pub bytes: [u8; LINE_BYTES],
 }
 
 // A line, and the place in the text behind it.
@@ -20,7 +21,7 @@ pub struct Taken {
 pub fn line_at(text: &[u8], at: usize) -> Taken
     ensures { λ r. ⌜ LineTaken (now (text .entry)) at r ⌝ }
 {
-    let mut bytes = [0u8; 16];
+    let mut bytes = [0u8; LINE_BYTES];
     let read = hextext::next_line(text, at, &mut bytes);
     Taken {
         line: Line {

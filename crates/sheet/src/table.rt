@@ -1,6 +1,10 @@
 // A sheet as the code holds it.
 use crate::clock::Micros;
 use crate::clock::Units;
+use crate::limits::Children;
+use crate::limits::ONSETS_MOST;
+use crate::limits::Pitches;
+use crate::limits::RULES_MOST;
 
 // A rule: a division or a leaf, each with its own fields. The nonterminals of a division's parts stand in a flat array beside it.
 pub enum Rule {
@@ -13,22 +17,22 @@ pub struct RuleCell {
     pub rule: Rule,
 }
 
-// The grammar: `count` rules from the front of `rules`; the parts of rule i from place 8 × i of `children` on. Places left are zero.
+// The grammar: `count` rules from the front of `rules`, and the nonterminals of their parts. Places left are zero.
 pub struct GrammarTable {
     pub nonterminals: u8,
     pub start: u8,
     pub multiplier: u16,
     pub count: usize,
-    pub rules: [RuleCell; 64],
-    pub children: [u8; 512],
+    pub rules: [RuleCell; RULES_MOST],
+    pub children: Children,
 }
 
 // The playing: `count` onsets from the front of both arrays; places left are zero.
 pub struct PlayingTable {
     pub bars: u8,
     pub count: usize,
-    pub units: [Units; 512],
-    pub pitches: [u8; 512],
+    pub units: [Units; ONSETS_MOST],
+    pub pitches: Pitches,
 }
 
 // The real time of a playing: one bar's duration. It stands beside the sheet, which has musical time alone.

@@ -9,13 +9,31 @@ ghost use Rattle.sheet.specs.Held.{grammarTable, playingTable};
 ghost use Rattle.sheet.specs.Good.{GoodRules, GoodOnsets, Good};
 ghost use Rattle.sizes.specs.Sizes.{divisors, member, lengthsOf, mostInBar, treeBytes, workCells};
 ghost use Rattle.sizes.specs.Held.{arityFlags, lengthTable, ReachedOf};
+use sheet::BAR_UNITS;
+use sheet::BARS_MOST;
 use sheet::GrammarTable;
+use sheet::ONSETS_MOST;
 use sheet::PlayingTable;
 use sheet::Rule;
 use sheet::Units;
 
+// The most lengths of intervals: the number of 20,160's divisors.
+pub const LENGTHS_MOST: usize = 84;
+
+// The lengths of intervals, from the largest down; places left are zero.
+pub type LengthCells = [u32; LENGTHS_MOST];
+
+// The bytes of the tree slice for each onset.
+pub const ONSET_TREE_BYTES: usize = 80;
+
+// The most bytes that a tree has.
+pub const TREE_BYTES_MOST: usize = BARS_MOST + ONSET_TREE_BYTES * ONSETS_MOST;
+
+// The work cells of an item: a row of four from each of four carry states.
+pub const ITEM_CELLS: usize = 16;
+
 // The divisors of 20,160, from the largest down.
-const DIVISORS: [u32; 84] = [
+const DIVISORS: [u32; LENGTHS_MOST] = [
     20160,
     10080,
     6720,
@@ -105,7 +123,7 @@ const DIVISORS: [u32; 84] = [
 // The lengths of intervals: `count` from the front of `cells`, from the largest down, the whole bar first. Places left are zero.
 pub struct LengthTable {
     pub count: usize,
-    pub cells: [u32; 84],
+    pub cells: LengthCells,
 }
 
 // The divisor of 20,160 at a place.
@@ -150,7 +168,7 @@ fn arities(g: GrammarTable) -> [bool; 9]
 }
 
 // Whether x is among the first `count` cells.
-fn among(cells: &[u32; 84], count: usize, x: Units) -> bool
+fn among(cells: &LengthCells, count: usize, x: Units) -> bool
     requires { ⌜ count ≤ 84 ⌝ }
     ensures { λ r. ⌜ ((xs : List ℕ) → length xs ≡ count → now (cells .entry) ≡ pad 84 0 xs → r ≡ member (x .0) xs) ⌝ }
 {
@@ -166,11 +184,11 @@ fn among(cells: &[u32; 84], count: usize, x: Units) -> bool
 }
 
 // Whether d is the whole bar, or some arity times d is among the first `count` cells.
-fn is_reached(flags: [bool; 9], cells: &[u32; 84], count: usize, d: Units) -> bool
+fn is_reached(flags: [bool; 9], cells: &LengthCells, count: usize, d: Units) -> bool
     requires { ⌜ (count ≤ 84) × (d .0 ≤ 20160) ⌝ }
     ensures { λ r. ⌜ ReachedOf flags (now (cells .entry)) count (d .0) r ⌝ }
 {
-    if d.0 == 20160 {
+    if d.0 == BAR_UNITS {
         return true;
     }
     let mut k: usize = 2;
@@ -194,10 +212,10 @@ pub fn lengths(g: GrammarTable) -> LengthTable
     ensures { λ r. ⌜ (r .count ≤ 84) × ((h : Grammar) → GoodRules h → g ≡ grammarTable h → r ≡ lengthTable (lengthsOf (h .rules))) ⌝ }
 {
     let flags = arities(g);
-    let mut cells = [0u32; 84];
+    let mut cells = [0u32; LENGTHS_MOST];
     let mut count: usize = 0;
     let mut j: usize = 0;
-    while j < 84 {
+    while j < LENGTHS_MOST {
         let d = divisor(j);
         j += 1;
         if is_reached(flags, &cells, count, d) {
@@ -220,7 +238,7 @@ pub fn most_in_bar(p: PlayingTable) -> usize
     let mut i: usize = 0;
     while i < n {
         let unit = p.units[i];
-        let b = unit.0 / 20160;
+        let b = unit.0 / BAR_UNITS;
         i += 1;
         if b != bar {
             run = 0;
@@ -239,7 +257,7 @@ pub fn tree_bytes(p: PlayingTable) -> usize
     requires { ⌜ p .count ≤ 512 ⌝ }
     ensures { λ r. ⌜ ((s : Sheet) → p ≡ playingTable (s .playing) → r ≡ treeBytes s) ⌝ }
 {
-    (p.bars as usize) + 80 * p.count
+    (p.bars as usize) + ONSET_TREE_BYTES * p.count
 }
 
 // The required length of finding's work slice, in cells.
@@ -250,5 +268,5 @@ pub fn work_cells(g: GrammarTable, p: PlayingTable) -> usize
     let reached = lengths(g);
     let most = most_in_bar(p);
     let rows = (g.nonterminals as usize) * reached.count;
-    16 * (rows * most + (p.bars as usize))
+    ITEM_CELLS * (rows * most + (p.bars as usize))
 }

@@ -20,6 +20,10 @@ use Rattle.trees.specs.Expansions.{Step, may-divide, parts-whole, step-o
 use Rattle.trees.specs.Onsets.{onsets-add, onsets-none, onsets-most, divided-long, own-distance-most}
 use Rattle.trees.specs.Depth.{depth, depth-bar, depth-falls}
 
+-- the most nodes that a tree has, a byte each: one for each of 64 bars and 80 for each of 512 onsets (`Theorems`' `nodes-most`)
+abbrev pub treeMost : ℕ
+treeMost = 41024
+
 module _ (s : Sheet) where
   -- an amount for each item: b, and f of its length for each onset inside
   abbrev share : (b : ℕ) (f : ℕ → ℕ) → Item → ℕ
@@ -125,7 +129,7 @@ module _ (s : Sheet) where
   -- A stretch: items in a row with no more room and reach than 64 bars with 512 onsets have. The bars are one, and so are the items that
   -- are left at any moment of a derivation from the bars, and any front of them: all that a tree's part can be read against.
   pub record Stretch (gs : List Item) : Type 0 where
-    pub nodes : sumOf room gs ≤ 41024
+    pub nodes : sumOf room gs ≤ treeMost
     pub distances : sumOf reach gs ≤ 10321920
 
   pub stretch-bars : Good s → Stretch (bars s)
@@ -156,5 +160,5 @@ module _ (s : Sheet) where
       → derive (instanceOf s) bs gs c ≡ some p → totalOf s (p .weight) (p .distance) < 2 ^ 49
   total-small good bs gs c p t h =
       let n = nodes-bound (instanceOf s) room (room-pays good) bs gs c p h in
-      let w : p .weight ≤ 65535 * 41024 = omega (arith, weight-bound (instanceOf s) 65535 (weight-most good) bs gs c p h, n, t .nodes) in
+      let w : p .weight ≤ 65535 * treeMost = omega (arith, weight-bound (instanceOf s) 65535 (weight-most good) bs gs c p h, n, t .nodes) in
       omega (arith, mul-le-mul (good .multiplier) w, distance-bound (instanceOf s) reach reach-pays bs gs c p h, t .distances)

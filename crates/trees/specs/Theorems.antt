@@ -18,7 +18,7 @@ use Rattle.trees.specs.ValidTrees.{bars, ValidTree, Priced, totalOf}
 use Rattle.trees.specs.Instance.{instanceOf, Derived}
 use Rattle.trees.specs.LeastTotal.{NONE, leastTotal}
 use Rattle.trees.specs.Room.{room, room-pays, bars-room, Stretch, stretch-bars, stretch-front, stretch-expands, stretch-at}
-use Rattle.trees.specs.Room.{total-small}
+use Rattle.trees.specs.Room.{treeMost, total-small}
 use Rattle.trees.specs.Laws.{lawful}
 use Rattle.trees.specs.Intervals.{Occurs, bar, part}
 use Rattle.trees.specs.Found.{LeastTree, own-price, first-tree, least-total-below}
@@ -40,7 +40,7 @@ module _ (s : Sheet) (good : Good s) where
       omega (arith, bars-room s, nodes-bound (instanceOf s) (room s) (room-pays s (good .rules)) bs (bars s) 0 _ (valid-derived s bs R D p))
 
   -- so no tree of any sheet has more than 64 + 80 × 512 bytes
-  pub nodes-most : (bs : List ℕ) → ValidTree s bs → length bs ≤ 41024
+  pub nodes-most : (bs : List ℕ) → ValidTree s bs → length bs ≤ treeMost
   nodes-most bs v = omega (arith, node-count bs v, good .onsets .sixty-four, good .onsets .most)
 
   pub part-node-count : (bs : List ℕ) (g : Item) (c : ℕ) (p : Price) → derive (instanceOf s) bs (g ∷ []) c ≡ some p → length bs ≤ room s g

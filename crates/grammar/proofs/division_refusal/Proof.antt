@@ -16,6 +16,9 @@ element-copy-out-head c = search needs
 element-copy-out-k : tie.Need-element-copy-out-k
 element-copy-out-k c = search needs
 
+cast-k : tie.Need-cast-k
+cast-k c = search needs
+
 returns-2 : tie.Need-returns-2
 unfolding divisionRefusal
 returns-2 c = search demands depth 10
@@ -23,9 +26,6 @@ returns-2 c = search demands depth 10
 returns-3 : tie.Need-returns-3
 unfolding divisionRefusal
 returns-3 c = search demands depth 10
-
-cast-if4 : tie.Need-cast-if4
-cast-if4 c = search needs
 
 add-if4 : tie.Need-add-if4
 add-if4 c = search needs
@@ -37,9 +37,6 @@ returns-4 c = search demands depth 10
 returns-5 : tie.Need-returns-5
 unfolding divisionRefusal
 returns-5 c = search demands depth 10
-
-cast-all-below : tie.Need-cast-all-below
-cast-all-below c = search needs
 
 all-below-requires : tie.Need-all-below-requires
 all-below-requires c κs = search needs
@@ -93,13 +90,12 @@ division-refusal-spec =
     returns
     element-copy-out-head
     element-copy-out-k
+    cast-k
     returns-2
     returns-3
-    cast-if4
     add-if4
     returns-4
     returns-5
-    cast-all-below
     all-below-requires
     returns-6
     returns-7

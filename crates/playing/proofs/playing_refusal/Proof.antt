@@ -13,6 +13,9 @@ returns c = search demands depth 10
 element-copy-out-bars : tie.Need-element-copy-out-bars
 element-copy-out-bars c = search needs
 
+cast-bars : tie.Need-cast-bars
+cast-bars c = search needs
+
 returns-2 : tie.Need-returns-2
 unfolding playingRefusal
 returns-2 c = search demands depth 10
@@ -46,6 +49,7 @@ playing-refusal-spec =
     (tie.spec
     returns
     element-copy-out-bars
+    cast-bars
     returns-2
     returns-3
     four-at-requires

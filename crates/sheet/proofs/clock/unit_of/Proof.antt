@@ -16,6 +16,9 @@ small c = unit-lt 64 (c .args .duration .0) (c .args .t .0) (omega arith) (c .pr
 cast-n : tie.Need-cast-n
 cast-n c = search needs
 
+cast-n-2 : tie.Need-cast-n-2
+cast-n-2 c = search needs
+
 mul-n : tie.Need-mul-n
 mul-n c = search needs
 
@@ -25,12 +28,12 @@ cast-u c = search needs
 div-u : tie.Need-div-u
 div-u c = search needs
 
-cast-t6 : tie.Need-cast-t6
-cast-t6 c = let h = small (c .before .before) in record { fits = omega arith }
+cast-t7 : tie.Need-cast-t7
+cast-t7 c = let h = small (c .before .before) in record { fits = omega arith }
 
 returns : tie.Need-returns
 unfolding unitOf
 returns c = (refl, small (c .before .before))
 
 pub unit-of-spec : {M : Type 1} → statement M
-unit-of-spec = tie.close (tie.spec cast-n mul-n cast-u div-u cast-t6 returns)
+unit-of-spec = tie.close (tie.spec cast-n cast-n-2 mul-n cast-u div-u cast-t7 returns)

@@ -1,0 +1,31 @@
+// How much a sheet has at most, by document 01, and the arrays that have room for it.
+
+// The most bytes of a text.
+pub const TEXT_MOST: usize = 16384;
+
+// The bytes of a line that are held.
+pub const LINE_BYTES: usize = 16;
+
+// The most rules of a grammar.
+pub const RULES_MOST: usize = 64;
+
+// The most parts of a division.
+pub const PARTS_MOST: usize = 8;
+
+// The places for the parts of every rule.
+pub const CHILD_CELLS: usize = PARTS_MOST * RULES_MOST;
+
+// The nonterminals of the parts: those of rule i from place PARTS_MOST × i on.
+pub type Children = [u8; CHILD_CELLS];
+
+// The most bars of a playing.
+pub const BARS_MOST: usize = 64;
+
+// The most onsets of a playing.
+pub const ONSETS_MOST: usize = 512;
+
+// The most onsets in one bar.
+pub const BAR_ONSETS_MOST: usize = 32;
+
+// The pitch of each onset.
+pub type Pitches = [u8; ONSETS_MOST];
