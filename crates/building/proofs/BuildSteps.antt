@@ -30,13 +30,13 @@ use Rattle.rows.specs.PackedLaws.{packedCell, packed-cell-most}
 use Rattle.rows.specs.Slots.{itemAt}
 use Rattle.rows.specs.Rows.{partsAt}
 use Rattle.building.specs.declared.Built.{Built}
-use Rattle.building.specs.Rebuilding.{at, Chosen, BuiltAs, BuildEntry, PartsBuildEntry}
+use Rattle.building.specs.Contracts.{at, Chosen, BuiltAs, BuildPre, PartsBuildPre}
 use Rattle.building.specs.RebuildLaws.{built-rule}
-use Rattle.building.specs.RuleLaws.{total-none, not-both, division-expanded, division-totals}
+use Rattle.building.proofs.RuleSteps.{total-none, not-both, division-expanded, division-totals}
 use Rattle.building.specs.ChoosingLaws.{leastCell, cell-chosen}
 
 module _ {s : Sheet} {plan us rows tree : List ℕ} {bar : Bar} {q l : ℕ} {left : Units} {from c : ℕ} {y v : List ℕ} {to : ℕ}
-    (h : BuildEntry s plan us rows tree bar q l left from c y v to) where
+    (h : BuildPre s plan us rows tree bar q l left from c y v to) where
   abbrev g : Item
   g = itemAt s q l left
 
@@ -134,7 +134,7 @@ module _ {s : Sheet} {plan us rows tree : List ℕ} {bar : Bar} {q l : ℕ} {lef
       pub expanded : instanceOf s .expand g c r ≡ some made-parts
       expanded = division-expanded s rules q l left c r (p .arity) (p .part) by inhabited
 
-      abbrev pub build-parts-entry : PartsBuildEntry s plan us rows (set tree to r) bar r (p .arity) (p .part) left from c v (to + 1)
+      abbrev pub build-parts-entry : PartsBuildPre s plan us rows (set tree to r) bar r (p .arity) (p .part) left from c v (to + 1)
       build-parts-entry = record {
         parts = record {
           in-bar = h .entry .stands .in-bar;

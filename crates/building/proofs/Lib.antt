@@ -1,3 +1,4 @@
-mod BehindSteps
+mod SuffixSteps
 mod BuildSteps
 mod PartSteps
+mod RuleSteps

@@ -1,6 +1,6 @@
 -- The steps of `build_parts`: the parts of a division from left to right. `InParts` is the loop's invariant: it begins with no part
 -- (`in-parts-none`), goes on by a part (`in-parts-more`) and ends with all (`in-parts-all`). A part is built with its row (`part-entry`)
--- and the vector behind it (`part-behind`).
+-- and the suffix costs behind it (`part-behind`).
 use Prim.Native.Nat.{ℕ, _+_, _*_, _≤_, _<_}
 use mathlib.Core.Path.{_≡_, refl, ap, subst, _∙_}
 use mathlib.Core.List.{List, [], _∷_}
@@ -12,7 +12,7 @@ use Rattle.sheet.specs.Sheet.{Sheet}
 use Rattle.sheet.specs.Good.{GoodRules}
 use Rattle.sheet.specs.Held.{units}
 use Rattle.derivations.specs.Derivation.{Item}
-use Rattle.trees.specs.ValidTrees.{row}
+use Rattle.trees.specs.ValidTrees.{adjoining}
 use Rattle.trees.specs.LeastTotal.{carries, cellOf}
 use Rattle.expansions.specs.Tables.{lastUnit}
 use Rattle.expansions.specs.Items.{firstAt}
@@ -26,9 +26,9 @@ use Rattle.rows.specs.Rows.{Entry, Row, partsAt}
 use Rattle.rows.specs.PartLaws.{parts-length, next-near, next-stands}
 use Rattle.rows.specs.TurnLaws.{row-totals, row-low}
 use Rattle.building.specs.declared.Built.{Built}
-use Rattle.building.specs.Rebuilding.{at, partsFrom, BehindEntry, Behind, BuiltAs, BuildEntry, PartsBuildEntry, Partway}
+use Rattle.building.specs.Contracts.{at, partsFrom, SuffixPre, SuffixCosts, BuiltAs, BuildPre, PartsBuildPre, Partway}
 use Rattle.building.specs.RebuildLaws.{row-drop, partway-none, partway-next, partway-done}
-use Rattle.building.specs.ServingLaws.{serves-behind, serves-reached}
+use Rattle.building.specs.InterchangeLaws.{interchangeable-suffix, interchangeable-reached}
 
 -- j parts are built, and the next begins at `lo`
 pub record InParts (s : Sheet) (rows tree now : List ℕ) (l : ℕ) (left : Units) (kids v : List ℕ) (c to : ℕ) (j lo from carry next : ℕ)
@@ -38,7 +38,7 @@ pub record InParts (s : Sheet) (rows tree now : List ℕ) (l : ℕ) (left : Unit
   pub sound : Sound s rows
 
 module _ {s : Sheet} {plan us rows tree : List ℕ} {bar : Bar} {r k l : ℕ} {left : Units} {from c : ℕ} {v : List ℕ} {to : ℕ}
-    (h : PartsBuildEntry s plan us rows tree bar r k l left from c v to) where
+    (h : PartsBuildPre s plan us rows tree bar r k l left from c v to) where
   abbrev kids : List ℕ
   kids = h .parts .divides .parts
 
@@ -55,7 +55,7 @@ module _ {s : Sheet} {plan us rows tree : List ℕ} {bar : Bar} {r k l : ℕ} {l
       }
     where
       all : partsAt s l left kids ≡ partsFrom s l left kids 0
-      all = ap (λ (x : ℕ). row x (lengthAt s l) kids) (omega arith)
+      all = ap (λ (x : ℕ). adjoining x (lengthAt s l) kids) (omega arith)
 
   -- one part more
   module _ {now rows′ : List ℕ} {j lo from′ carry next : ℕ} {len : ℕ}
@@ -106,8 +106,8 @@ module _ {s : Sheet} {plan us rows tree : List ℕ} {bar : Bar} {r k l : ℕ} {l
           totals-are m hm =
               ap (λ (z : List ℕ). at z m) (row-totals good (on .few) row-is ex) ∙ vec-at (cellOf s part carry) m hm
 
-          -- the vector behind it
-          abbrev pub part-behind : BehindEntry s plan us rows″ bar r (j + 1) k l (units (lo + len)) to′ 0 x v
+          -- the suffix costs behind it
+          abbrev pub part-behind : SuffixPre s plan us rows″ bar r (j + 1) k l (units (lo + len)) to′ 0 x v
           part-behind = record {
             parts = record {
               in-bar = h .parts .in-bar;
@@ -127,19 +127,19 @@ module _ {s : Sheet} {plan us rows tree : List ℕ} {bar : Bar} {r k l : ℕ} {l
             low = h .low;
           }
 
-          module _ {rows‴ w : List ℕ} (b : Behind s rows‴ (partsAt s l (units (lo + len)) (drop (j + 1) kids)) x v w) where
-            behind-rest : Behind s rows‴ rest x v w
-            behind-rest =
-                subst (λ (n : ℕ). Behind s rows‴ (row n (lengthAt s l) (drop (j + 1) kids)) x v w)
+          module _ {rows‴ w : List ℕ} (b : SuffixCosts s rows‴ (partsAt s l (units (lo + len)) (drop (j + 1) kids)) x v w) where
+            suffix-rest : SuffixCosts s rows‴ rest x v w
+            suffix-rest =
+                subst (λ (n : ℕ). SuffixCosts s rows‴ (adjoining n (lengthAt s l) (drop (j + 1) kids)) x v w)
                 (omega (arith, lo-is, same-len)) b
 
-            pub part-build : BuildEntry s plan us rows‴ now bar q l (units lo) from′ carry y w next
+            pub part-build : BuildPre s plan us rows‴ now bar q l (units lo) from′ carry y w next
             part-build =
                 record {
                   entry = record { stands = part-entry .stands; few = on .few; sound = b .sound };
                   row-is = row-is .is;
                   low = b .low;
-                  reached = serves-reached s good part carry (on .few) totals-are behind-rest (on .reached);
+                  reached = interchangeable-reached s good part carry (on .few) totals-are suffix-rest (on .reached);
                   fits = omega (arith, on .fits, ap length (on .written), length-over-from to (on .bytes) tree);
                 }
 
@@ -148,7 +148,7 @@ module _ {s : Sheet} {plan us rows tree : List ℕ} {bar : Bar} {r k l : ℕ} {l
             in-parts-more {rows⁗} {then} {built} made =
                 record {
                   partway = partway-next s good rows⁗ tree now then (partsAt s l left kids) part rest (at v) c to carry next w _ built on
-                      (serves-behind s good part carry (on .few) totals-are behind-rest (on .reached)) made;
+                      (interchangeable-suffix s good part carry (on .few) totals-are suffix-rest (on .reached)) made;
                   first = eto;
                   sound = made .sound;
                 }
@@ -160,5 +160,5 @@ module _ {s : Sheet} {plan us rows tree : List ℕ} {bar : Bar} {r k l : ℕ} {l
       (subst (λ (gs : List Item). Partway s tree now (partsAt s l left kids) gs (at v) c to carry next) none (p .partway)) refl refl
     where
       none : partsFrom s l left kids j ≡ []
-      none = rw ej (ap (row (left .0 + k * lengthAt s l) (lengthAt s l))
+      none = rw ej (ap (adjoining (left .0 + k * lengthAt s l) (lengthAt s l))
           (drop-of-length-le kids {i = k} (omega (arith, h .parts .divides .count))))

@@ -1,5 +1,5 @@
 -- The rule chosen at an item: of its row, whose cells hold 64 times a total and the first rule that comes to it, the least sum with 64
--- times the vector behind holds the first rule that comes to the least total.
+-- times the suffix costs behind holds the first rule that comes to the least total.
 use Prim.Native.Nat.{ℕ, _+_, _*_, _%_, _≤_, _<_}
 use mathlib.Core.Path.{_≡_, refl, sym, ap, _∙_}
 use mathlib.Core.List.{List, [], _∷_, append-nil}
@@ -11,9 +11,9 @@ use Rattle.sheet.specs.Sheet.{Sheet}
 use Rattle.sheet.specs.Good.{GoodRules}
 use Rattle.derivations.specs.Derivation.{Item, Expansion}
 use Rattle.derivations.specs.Minima.{lowest, lowest-le, lowest-at, only, FirstPlace}
-use Rattle.derivations.specs.Table.{via, forward, backward}
+use Rattle.derivations.specs.Folds.{via, forward, backward}
 use Rattle.derivations.specs.Rebuild.{rules-backward}
-use Rattle.derivations.specs.Serving.{cut-total}
+use Rattle.derivations.specs.Interchange.{cut-total}
 use Rattle.trees.specs.Instance.{instanceOf}
 use Rattle.trees.specs.LeastTotal.{NONE, carries, cellOf}
 use Rattle.trees.specs.Laws.{lawful}
@@ -21,7 +21,7 @@ use Rattle.trees.specs.Found.{cells-least}
 use Rattle.plan.specs.Plan.{ruleCount}
 use Rattle.rows.specs.CellLaws.{totalBy}
 use Rattle.rows.specs.PackedLaws.{packedCell, packed-cell-is, packed-cell-rule}
-use Rattle.building.specs.Rebuilding.{at, behind, restTotal, Chosen}
+use Rattle.building.specs.Contracts.{at, suffixCosts, restTotal, Chosen}
 
 -- the least sum of a row and 64 times a vector, or 64 times the cap
 abbrev pub leastCell : (y v : List ℕ) → ℕ
@@ -31,12 +31,12 @@ module _ (s : Sheet) (good : GoodRules (s .grammar)) where
   abbrev a : ℕ
   a = s .grammar .multiplier
 
-  -- items with the vector v behind them, by the forward fold and then the vector
-  pub behind-forward : (gs : List Item) (v : ℕ → ℕ) (c : ℕ) → ((x : ℕ) → v x ≤ NONE) → c < carries
-      → behind s gs v c ≡ lowest NONE (λ m. forward carries NONE (cellOf s) gs (only NONE c) m + v m) carries
+  -- items with the suffix costs v behind them, by the forward fold and then the vector
+  pub suffix-forward : (gs : List Item) (v : ℕ → ℕ) (c : ℕ) → ((x : ℕ) → v x ≤ NONE) → c < carries
+      → suffixCosts s gs v c ≡ lowest NONE (λ m. forward carries NONE (cellOf s) gs (only NONE c) m + v m) carries
   unfolding backward
-  behind-forward gs v c low hc =
-      ap (λ (hs : List Item). behind s hs v c) (sym (append-nil gs)) ∙ cut-total (lawful s) a NONE (cellOf s)
+  suffix-forward gs v c low hc =
+      ap (λ (hs : List Item). suffixCosts s hs v c) (sym (append-nil gs)) ∙ cut-total (lawful s) a NONE (cellOf s)
       (cells-least s good) gs [] v c low hc
 
   module _ (g : Item) (v : ℕ → ℕ) (low : (x : ℕ) → v x ≤ NONE) (c : ℕ) (hc : c < carries) where
@@ -51,7 +51,7 @@ module _ (s : Sheet) (good : GoodRules (s .grammar)) where
             let f = forward carries NONE (cellOf s) (x .parts) (only NONE (x .carry)) in
             rw e (omega (
               arith,
-              behind-forward (x .parts) v (x .carry) low (lawful s .fits g c r x hc e),
+              suffix-forward (x .parts) v (x .carry) low (lawful s .fits g c r x hc e),
               lowest-le NONE (λ i. f i + v i) carries m hm,
             ))
 
@@ -65,8 +65,8 @@ module _ (s : Sheet) (good : GoodRules (s .grammar)) where
         go none e = absurd (omega (arith, rw e at h))
         go (some x) e =
             let f = forward carries NONE (cellOf s) (x .parts) (only NONE (x .carry)) in
-            let whole = behind-forward (x .parts) v (x .carry) low (lawful s .fits g c r x hc e) in
-            let h′ : a * instanceOf s .weight r + x .distance + behind s (x .parts) v (x .carry) < NONE = rw e at h in
+            let whole = suffix-forward (x .parts) v (x .carry) low (lawful s .fits g c r x hc e) in
+            let h′ : a * instanceOf s .weight r + x .distance + suffixCosts s (x .parts) v (x .carry) < NONE = rw e at h in
             let (m, hm, is) = lowest-at NONE (λ i. f i + v i) carries (omega (arith, whole)) in
             (m, hm, rw e (omega (arith, whole, is)))
 
@@ -76,7 +76,7 @@ module _ (s : Sheet) (good : GoodRules (s .grammar)) where
     rule-above m r hr = lowest-le (64 * NONE) (λ j. 64 * totalBy s g c m j + j) (ruleCount s) r hr
 
     abbrev goal : ℕ
-    goal = behind s (g ∷ []) v c
+    goal = suffixCosts s (g ∷ []) v c
 
     -- the least over the rules
     goal-is : lowest NONE (restTotal s g v c) (ruleCount s) ≡ goal

@@ -1,5 +1,4 @@
-pub mod Rebuilding
-pub mod RuleLaws
-pub mod ServingLaws
+pub mod Contracts
+pub mod InterchangeLaws
 pub mod ChoosingLaws
 pub mod RebuildLaws

@@ -13,10 +13,10 @@ use Rattle.derivations.specs.Derivation.{Item, Expansion, Price, _⊞_, priceOf
 use Rattle.derivations.specs.Bound.{sumOf, nodes-bound}
 use Rattle.derivations.specs.Least.{carry-fits}
 use Rattle.derivations.specs.First.{First, first-nil}
-use Rattle.derivations.specs.Table.{Exact}
-use Rattle.derivations.specs.Rebuild.{behind-below, first-next, first-chosen}
-use Rattle.derivations.specs.Serving.{Serves, first-served}
-use Rattle.trees.specs.ValidTrees.{row}
+use Rattle.derivations.specs.Folds.{Exact}
+use Rattle.derivations.specs.Rebuild.{suffix-below, first-next, first-chosen}
+use Rattle.derivations.specs.Interchange.{Interchangeable, first-interchanged}
+use Rattle.trees.specs.ValidTrees.{adjoining}
 use Rattle.trees.specs.Instance.{instanceOf}
 use Rattle.trees.specs.LeastTotal.{NONE, carries, cellOf}
 use Rattle.trees.specs.Laws.{lawful}
@@ -24,20 +24,20 @@ use Rattle.trees.specs.Found.{cells-least}
 use Rattle.trees.specs.Room.{room, room-pays}
 use Rattle.rows.specs.Slots.{Sound}
 use Rattle.building.specs.declared.Built.{Built}
-use Rattle.building.specs.Rebuilding.{at, behind, restTotal, Chosen, BuiltAs, Partway}
+use Rattle.building.specs.Contracts.{at, suffixCosts, restTotal, Chosen, BuiltAs, Partway}
 
 -- ---- the parts of a division
 
 pub row-drop : (left len : ℕ) (ks : List ℕ) (j : ℕ) → j < length ks
-    → row (left + j * len) len (drop j ks) ≡ record { nonterminal = getD ks j 0; left = left + j * len; len = len } ∷ row
+    → adjoining (left + j * len) len (drop j ks) ≡ record { nonterminal = getD ks j 0; left = left + j * len; len = len } ∷ adjoining
     (left + (j + 1) * len) len (drop (j + 1) ks)
 row-drop left len ks j h =
     let e : left + j * len + len ≡ left + (j + 1) * len = omega arith in
-    ap (row (left + j * len) len) (drop-step ks j h) ∙ ap (λ (x : ℕ). record {
+    ap (adjoining (left + j * len) len) (drop-step ks j h) ∙ ap (λ (x : ℕ). record {
       nonterminal = getD ks j 0;
       left = left + j * len;
       len = len;
-    } ∷ row x len (drop (j + 1) ks)) e
+    } ∷ adjoining x len (drop (j + 1) ks)) e
 
 -- ---- one item more is built
 
@@ -49,7 +49,7 @@ module _ (s : Sheet) (good : GoodRules (s .grammar)) where
   exact = cells-least s good
 
   -- before the first item
-  pub partway-none : (tree : List ℕ) (gs : List Item) (v : ℕ → ℕ) (c to : ℕ) → c < carries → behind s gs v c < NONE
+  pub partway-none : (tree : List ℕ) (gs : List Item) (v : ℕ → ℕ) (c to : ℕ) → c < carries → suffixCosts s gs v c < NONE
       → to + sumOf (room s) gs ≤ length tree → Partway s tree tree gs gs v c to c to
   partway-none tree gs v c to hc reached fits =
       record {
@@ -64,12 +64,12 @@ module _ (s : Sheet) (good : GoodRules (s .grammar)) where
         fits = fits;
       }
 
-  -- an item is built with a vector that serves for the one behind it, and then the next
+  -- an item is built with suffix costs that are interchangeable with those behind it, and then the next
   pub partway-next : (rows tree now then : List ℕ) (gs : List Item) (g : Item) (rest : List Item) (v : ℕ → ℕ) (c to carry next : ℕ)
       (x : List ℕ) (goal : ℕ) (b : Built) → Partway s tree now gs (g ∷ rest) v c to carry next
-      → Serves (instanceOf s) a (g ∷ []) (behind s rest v) (at x) carry goal → BuiltAs s rows now then (g ∷ []) (at x) carry next b
+      → Interchangeable (instanceOf s) a (g ∷ []) (suffixCosts s rest v) (at x) carry goal → BuiltAs s rows now then (g ∷ []) (at x) carry next b
       → Partway s tree then gs rest v c to (b .carry) (b .to)
-  partway-next rows tree now then gs g rest v c to carry next x goal b p serves built =
+  partway-next rows tree now then gs g rest v c to carry next x goal b p alike built =
       record {
         bytes = p .bytes ++ built .bytes;
         price = p .price ⊞ built .price;
@@ -85,11 +85,11 @@ module _ (s : Sheet) (good : GoodRules (s .grammar)) where
       small : b .carry < carries
       small = rw (built .carry-is) (carry-fits (lawful s) (built .bytes) (g ∷ []) carry (built .price) (built .first .reads) (p .few))
 
-      one : First (instanceOf s) a (g ∷ []) (behind s rest v) carry (built .bytes) (built .price)
-      one = first-served serves (built .first)
+      one : First (instanceOf s) a (g ∷ []) (suffixCosts s rest v) carry (built .bytes) (built .price)
+      one = first-interchanged alike (built .first)
 
-      below : behind s rest v (b .carry) < NONE
-      below = rw (built .carry-is) (behind-below (lawful s) a NONE (cellOf s) exact g rest v carry (built .bytes) (built .price) (p .few)
+      below : suffixCosts s rest v (b .carry) < NONE
+      below = rw (built .carry-is) (suffix-below (lawful s) a NONE (cellOf s) exact g rest v carry (built .bytes) (built .price) (p .few)
           (p .reached) one)
 
       most : length (built .bytes) ≤ room s g

@@ -1,5 +1,5 @@
-// Writing the first least list of an item: the rule is told by the item's row and the vector behind it, and then its parts are written from
-// left to right, each with the vector of those behind it.
+// Writing the first least list of an item: the rule is told by the item's row and the suffix costs behind it, and then its parts are written from
+// left to right, each with the suffix costs of those behind it.
 ghost use mathlib.Core.Path.{_≡_};
 ghost use mathlib.Core.List.{[], _∷_};
 ghost use Prim.Native.Nat.{_<_};
@@ -9,7 +9,7 @@ ghost use Rattle.trees.specs.LeastTotal.{NONE};
 ghost use Rattle.rows.specs.Vectors.{Low, LowCells};
 ghost use Rattle.rows.specs.Slots.{itemAt};
 ghost use Rattle.rows.specs.Rows.{partsAt};
-ghost use Rattle.building.specs.Rebuilding.{at, BehindEntry, PassedAs, Behind, BuildEntry, PartsBuildEntry, BuiltAs};
+ghost use Rattle.building.specs.Contracts.{at, SuffixPre, PassedAs, SuffixCosts, BuildPre, PartsBuildPre, BuiltAs};
 ghost use Rattle.building.specs.ChoosingLaws.{leastCell};
 use expansions::Interval;
 use expansions::PackedUnits;
@@ -47,7 +47,7 @@ fn least_cell(y: [u64; 4], v: [u64; 4]) -> u64
     least(c, y[3] + 64 * v[3])
 }
 
-// What the parts of rule r from part i on total from carry state c with the vector v behind them; NONE where c is idle by the totals y of
+// What the parts of rule r from part i on total from carry state c with the suffix costs v behind them; NONE where c is idle by the totals y of
 // the item before them, since no least list passes it.
 fn passed<'a>(
     plan: &'a Plan,
@@ -64,9 +64,9 @@ fn passed<'a>(
     y: [u64; 4],
     v: [u64; 4],
 ) -> u64
-    requires { ⌜ (i < k) × ((s : Sheet) × BehindEntry s (now plan) (now units) (now rows) bar r i k l left from c y v) ⌝ }
+    requires { ⌜ (i < k) × ((s : Sheet) × SuffixPre s (now plan) (now units) (now rows) bar r i k l left from c y v) ⌝ }
     ensures { λ w. ⌜
-        ((s : Sheet) (e : BehindEntry s (now (plan .entry)) (now (units .entry)) (now (rows .entry)) bar r i k l left from c y v)
+        ((s : Sheet) (e : SuffixPre s (now (plan .entry)) (now (units .entry)) (now (rows .entry)) bar r i k l left from c y v)
         → PassedAs s (now (rows .exit)) (partsAt s l left (drop i (e .parts .divides .parts))) y v c w)
         ⌝ }
 {
@@ -77,8 +77,8 @@ fn passed<'a>(
     dot(x, v)
 }
 
-// The vector before the parts of rule r from part i on, with v behind them and the totals y of the item before them.
-fn behind<'a>(
+// The suffix costs before the parts of rule r from part i on, with v behind them and the totals y of the item before them.
+fn suffix_costs<'a>(
     plan: &'a Plan,
     units: &'a PackedUnits,
     rows: &mut [u64],
@@ -92,10 +92,10 @@ fn behind<'a>(
     y: [u64; 4],
     v: [u64; 4],
 ) -> [u64; 4]
-    requires { ⌜ ((s : Sheet) × BehindEntry s (now plan) (now units) (now rows) bar r i k l left from 0 y v) ⌝ }
+    requires { ⌜ ((s : Sheet) × SuffixPre s (now plan) (now units) (now rows) bar r i k l left from 0 y v) ⌝ }
     ensures { λ w. ⌜
-        ((s : Sheet) (e : BehindEntry s (now (plan .entry)) (now (units .entry)) (now (rows .entry)) bar r i k l left from 0 y v)
-        → Behind s (now (rows .exit)) (partsAt s l left (drop i (e .parts .divides .parts))) y v w)
+        ((s : Sheet) (e : SuffixPre s (now (plan .entry)) (now (units .entry)) (now (rows .entry)) bar r i k l left from 0 y v)
+        → SuffixCosts s (now (rows .exit)) (partsAt s l left (drop i (e .parts .divides .parts))) y v w)
         ⌝ }
 {
     if k <= i {
@@ -108,7 +108,7 @@ fn behind<'a>(
     [a, b, c, d]
 }
 
-// Writes the first least list of an item from byte `to` on: y is its row from carry state c, and v the vector behind it.
+// Writes the first least list of an item from byte `to` on: y is its row from carry state c, and v the suffix costs behind it.
 pub fn build<'a>(
     plan: &'a Plan,
     units: &'a PackedUnits,
@@ -124,10 +124,10 @@ pub fn build<'a>(
     v: [u64; 4],
     to: usize,
 ) -> Built
-    requires { ⌜ ((s : Sheet) × BuildEntry s (now plan) (now units) (now rows) (now tree) bar q l left from c y v to) ⌝ }
+    requires { ⌜ ((s : Sheet) × BuildPre s (now plan) (now units) (now rows) (now tree) bar q l left from c y v to) ⌝ }
     ensures { λ b. ⌜
         ((s : Sheet)
-        → BuildEntry s (now (plan .entry)) (now (units .entry)) (now (rows .entry)) (now (tree .entry)) bar q l left from c y v to
+        → BuildPre s (now (plan .entry)) (now (units .entry)) (now (rows .entry)) (now (tree .entry)) bar q l left from c y v to
         → BuiltAs s (now (rows .exit)) (now (tree .entry)) (now (tree .exit)) (itemAt s q l left ∷ []) (at v) c to b)
         ⌝ }
 {
@@ -164,7 +164,7 @@ pub fn build<'a>(
     )
 }
 
-// Writes the first least lists of the parts of rule r, one behind the other, with the vector v behind them.
+// Writes the first least lists of the parts of rule r, one behind the other, with the suffix costs v behind them.
 fn build_parts<'a>(
     plan: &'a Plan,
     units: &'a PackedUnits,
@@ -180,10 +180,10 @@ fn build_parts<'a>(
     v: [u64; 4],
     to: usize,
 ) -> Built
-    requires { ⌜ ((s : Sheet) × PartsBuildEntry s (now plan) (now units) (now rows) (now tree) bar r k l left from c v to) ⌝ }
+    requires { ⌜ ((s : Sheet) × PartsBuildPre s (now plan) (now units) (now rows) (now tree) bar r k l left from c v to) ⌝ }
     ensures { λ b. ⌜
         ((s : Sheet)
-        (e : PartsBuildEntry s (now (plan .entry)) (now (units .entry)) (now (rows .entry)) (now (tree .entry)) bar r k l left from c v to)
+        (e : PartsBuildPre s (now (plan .entry)) (now (units .entry)) (now (rows .entry)) (now (tree .entry)) bar r k l left from c v to)
         → BuiltAs s (now (rows .exit)) (now (tree .entry)) (now (tree .exit)) (partsAt s l left (e .parts .divides .parts)) (at v) c to b)
         ⌝ }
 {
@@ -200,7 +200,7 @@ fn build_parts<'a>(
         let then = first_behind(units, at, Units(end));
         let y = cells(plan, units, rows, bar, q, l, Units(lo), at, carry);
         let x = totals(y);
-        let w = behind(plan, units, rows, bar, r, j, k, l, Units(end), then, x, v);
+        let w = suffix_costs(plan, units, rows, bar, r, j, k, l, Units(end), then, x, v);
         let b = build(
             plan,
             units,

@@ -10,7 +10,7 @@ use Rattle.slices.specs.Every.{Every, every-weaken, every-all}
 use Rattle.derivations.specs.Derivation.{Item, Expansion, Instance, Lawful}
 use Rattle.derivations.specs.Minima.{lowest, lowest-cap, only}
 use Rattle.derivations.specs.Least.{least-same}
-use Rattle.derivations.specs.Table.{Cells, ruleTotal, rules-least, forward, Exact, parts-least}
+use Rattle.derivations.specs.Folds.{Cells, ruleTotal, rules-least, forward, Exact, parts-least}
 
 -- a property of every part of each expansion of an item
 abbrev pub EveryPart : Instance → (Item → Type 0) → Item → Type 0

@@ -2,9 +2,9 @@ pub mod Derivation
 pub mod Minima
 pub mod Least
 pub mod First
-pub mod Table
+pub mod Folds
 pub mod Cells
 pub mod Rebuild
 pub mod Bound
 pub mod Reads
-pub mod Serving
+pub mod Interchange

@@ -10,8 +10,8 @@ use Rattle.derivations.specs.Derivation.{Item, Expansion, Price, Instanc
 use Rattle.derivations.specs.Minima.{lowest, lowest-cap, FirstPlace, lowest-first}
 use Rattle.derivations.specs.Least.{Least, least-same, carry-fits}
 use Rattle.derivations.specs.First.{First, first-nil, first-total, first-append, first-rule}
-use Rattle.derivations.specs.Table.{Cells, via, ruleTotal, LeastParts, rule-opening, rules-least}
-use Rattle.derivations.specs.Table.{backward, Exact, backward-least}
+use Rattle.derivations.specs.Folds.{Cells, via, ruleTotal, LeastParts, rule-opening, rules-least}
+use Rattle.derivations.specs.Folds.{backward, Exact, backward-least}
 use Rattle.derivations.specs.Cells.{Falls, EveryPart, depth-rec, cell, cell-exact}
 
 -- there is a first least list
@@ -45,11 +45,11 @@ module _ {P : Instance} {C : ℕ} (L : Lawful P C) (a cap : ℕ) (cell : Cells) 
       (lowest-cap cap _ (P .count)) (lowest-cap cap _ C)
 
   -- behind a first list the vector is below the cap where the whole is
-  pub behind-below : (g : Item) (gs : List Item) (v : ℕ → ℕ) (c : ℕ) (b : List ℕ) (p : Price) → c < C
+  pub suffix-below : (g : Item) (gs : List Item) (v : ℕ → ℕ) (c : ℕ) (b : List ℕ) (p : Price) → c < C
       → backward C cap cell (g ∷ gs) v c < cap
       → First P a (g ∷ []) (backward C cap cell gs v) c b p → backward C cap cell gs v (p .carry) < cap
   unfolding backward
-  behind-below g gs v c b p hc h f =
+  suffix-below g gs v c b p hc h f =
       let u : ℕ → ℕ = backward C cap cell gs v in
       let s : ℕ = backward C cap cell (g ∷ gs) v c in
       omega (arith, first-total P a cap (g ∷ []) u c s b p (row-least (g ∷ []) u c hc) h f)
@@ -60,7 +60,7 @@ module _ {P : Instance} {C : ℕ} (L : Lawful P C) (a cap : ℕ) (cell : Cells) 
       → First P a (g ∷ gs) v c (b₁ ++ b₂) (p₁ ⊞ p₂)
   first-next g gs v c b₁ b₂ p₁ p₂ hc h f₁ f₂ =
       first-append L a cap (g ∷ []) gs v (backward C cap cell gs v) c b₁ b₂ p₁ p₂ hc (row-least gs v)
-      (behind-below g gs v c b₁ p₁ hc h f₁) f₁
+      (suffix-below g gs v c b₁ p₁ hc h f₁) f₁
       f₂
 
   -- an item, by the first rule that comes to least, and then the first for its parts
@@ -82,7 +82,7 @@ module _ {P : Instance} {C : ℕ} (L : Lawful P C) (a cap : ℕ) (cell : Cells) 
       let s : ℕ = backward C cap cell (g ∷ gs) v c in
       let (b₁, p₁, f₁) = item u c s hc (row-least (g ∷ []) u c hc) h in
       let h₁ = carry-fits L b₁ (g ∷ []) c p₁ (f₁ .reads) hc in
-      let (b₂, p₂, f₂) = rebuilt-row gs items v (p₁ .carry) h₁ (behind-below g gs v c b₁ p₁ hc h f₁) in
+      let (b₂, p₂, f₂) = rebuilt-row gs items v (p₁ .carry) h₁ (suffix-below g gs v c b₁ p₁ hc h f₁) in
       (b₁ ++ b₂, p₁ ⊞ p₂, first-next g gs v c b₁ b₂ p₁ p₂ hc h f₁ f₂)
 
   -- an item: the first rule that comes to least, and then its parts

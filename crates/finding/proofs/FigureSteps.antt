@@ -16,7 +16,7 @@ use Rattle.trees.specs.ValidTrees.{ruleAt, weightOf, weightAt, ruleWeight, tota
 use Rattle.trees.specs.Theorems.{valid-bytes, nodes-most}
 use Rattle.expansions.specs.Tables.{unpackedOf, cellOf, PackedRules}
 use Rattle.pricing.specs.Pricing.{priced, pricedOf}
-use Rattle.finding.specs.Figures.{weightIn, WeightEntry, FiguresEntry}
+use Rattle.finding.specs.Contracts.{weightIn, WeightPre, FiguresPre}
 
 -- ---- `weight_sum`
 
@@ -28,7 +28,7 @@ cell-weight (some (division h w ks)) = refl
 cell-weight (some (leaf h w n)) = refl
 
 -- a number of the list is a place of the packed rules
-pub rule-below : {s : Sheet} {rules list : List ℕ} → WeightEntry s rules list → (i : ℕ) → i < length list → getD list i 0 < 64
+pub rule-below : {s : Sheet} {rules list : List ℕ} → WeightPre s rules list → (i : ℕ) → i < length list → getD list i 0 < 64
 rule-below {list = list} e i h = every-in (λ (r : ℕ). r < 64) list i 0 h (e .below)
 
 -- the weights of the first i rules of a list are summed
@@ -48,7 +48,7 @@ module _ (rules list : List ℕ) (sum i : ℕ) (t : SummedTo rules list sum i) w
       ap (ruleWeight s) (drop-step list i h) ∙ ap (λ (x : ℕ). weightAt s x + ruleWeight s (drop (i + 1) list)) (sym er) in
       omega (arith, own, here, t s p)
 
-  pub all-summed : length list ≤ i → (s : Sheet) → WeightEntry s rules list → sum ≡ ruleWeight s list
+  pub all-summed : length list ≤ i → (s : Sheet) → WeightPre s rules list → sum ≡ ruleWeight s list
   unfolding ruleWeight
   all-summed h s e =
       let rest : ruleWeight s (drop i list) ≡ 0 = ap (ruleWeight s) (drop-of-length-le list h) in
@@ -56,9 +56,9 @@ module _ (rules list : List ℕ) (sum i : ℕ) (t : SummedTo rules list sum i) w
 
 -- ---- `figures`
 
-module _ {s : Sheet} {grammar : GrammarTable} {list : List ℕ} {R D total : ℕ} (h : FiguresEntry s grammar list R D total) where
-  pub weight-entry : {rules : List ℕ} → PackedRules (s .grammar) rules → WeightEntry s rules list
-  weight-entry p = record {
+module _ {s : Sheet} {grammar : GrammarTable} {list : List ℕ} {R D total : ℕ} (h : FiguresPre s grammar list R D total) where
+  pub weight-pre : {rules : List ℕ} → PackedRules (s .grammar) rules → WeightPre s rules list
+  weight-pre p = record {
     packed = p;
     below = every-weaken _ _ (λ r k. omega (arith, k, h .good .rules .most)) list (valid-bytes s list (h .tree .valid));
     few = nodes-most s (h .good) list (h .tree .valid);

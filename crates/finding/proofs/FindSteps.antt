@@ -22,9 +22,9 @@ use Rattle.trees.specs.LeastTotal.{NONE, leastTotal}
 use Rattle.pricing.specs.declared.Priced.{Priced}
 use Rattle.pricing.specs.Pricing.{priced, pricedOf}
 use Rattle.search.specs.declared.Found.the-variants.{NoTree, Tree}
-use Rattle.search.specs.Search.{SearchEntry, Searched}
+use Rattle.search.specs.Contracts.{SearchPre, Searched}
 use Rattle.finding.specs.Finding.{hasTree, Search, findSheet, findText, Gives, Finds}
-use Rattle.finding.specs.Figures.{FiguresEntry}
+use Rattle.finding.specs.Contracts.{FiguresPre}
 use Rattle.finding.specs.Outcomes.{work-short, tree-short, none-found, one-found, gives}
 use Rattle.finding.specs.FindingLaws.{tree-fits, has-tree}
 
@@ -63,11 +63,11 @@ module _ {s : Sheet} {g : GrammarTable} {p : PlayingTable} (h : SheetHeld s g p)
         gives _ _ (tree-short s (length tree) (length work) enough (omega (arith, room-required)))
         (record { zeros = e; tree-kept = refl }, refl)
 
-    pub search-entry : bytes ≤ length tree → SearchEntry s g p tree work
-    search-entry t = record { held = h; tree-size = omega (arith, room-required); work-size = enough }
+    pub search-pre : bytes ≤ length tree → SearchPre s g p tree work
+    search-pre t = record { held = h; tree-size = omega (arith, room-required); work-size = enough }
 
 -- what the search told
-module _ {s : Sheet} {g : GrammarTable} {p : PlayingTable} {tree work : List ℕ} (entry : SearchEntry s g p tree work) (after clear : List ℕ)
+module _ {s : Sheet} {g : GrammarTable} {p : PlayingTable} {tree work : List ℕ} (entry : SearchPre s g p tree work) (after clear : List ℕ)
   where
     pub nothing-found : Searched s tree after work clear NoTree → (r : Priced) → r ≡ pricedOf (refused 11 0)
         → Gives (findSheet s (length tree) (length work)) tree after work clear r
@@ -96,8 +96,8 @@ module _ {s : Sheet} {g : GrammarTable} {p : PlayingTable} {tree work : List ℕ
       front : take n after ≡ bs
       front = ap (λ (m : ℕ). take m after) (f .found .4) ∙ ap (take (length bs)) (f .found .5) ∙ take-over bs tree fits
 
-      pub figures-entry : FiguresEntry s g (take n after) (f .found .1) (f .found .2) total
-      figures-entry = record {
+      pub figures-pre : FiguresPre s g (take n after) (f .found .1) (f .found .2) total
+      figures-pre = record {
         good = entry .held .good;
         held = entry .held .grammar;
         tree = rw front (f .found .3 .tree .valid);

@@ -21,7 +21,7 @@ use Rattle.sheet.specs.Good.{Good}
 use Rattle.sheet.specs.Bounds.{refused-within}
 use Rattle.sizes.specs.Sizes.{treeBytes, workCells}
 use Rattle.derivations.specs.Derivation.{Price, derive}
-use Rattle.trees.specs.ValidTrees.{row, bars, ValidTree, totalOf}
+use Rattle.trees.specs.ValidTrees.{adjoining, bars, ValidTree, totalOf}
 use Rattle.trees.specs.Instance.{instanceOf, Derived}
 use Rattle.trees.specs.Equivalence.{valid-derived}
 use Rattle.trees.specs.LeastTotal.{NONE, leastTotal}
@@ -76,7 +76,7 @@ module _ (s : Sheet) (ok : Good s) where
       let (R, D, p) = own-price s [] v in
       go (s .playing .bars) (ok .onsets .one) (valid-derived s [] R D p)
     where
-      go : (b : ℕ) → 1 ≤ b → {p : Price} → derive (instanceOf s) [] (row 0 barUnits (replicate b (s .grammar .start))) 0 ≡ some p → ⊥
+      go : (b : ℕ) → 1 ≤ b → {p : Price} → derive (instanceOf s) [] (adjoining 0 barUnits (replicate b (s .grammar .start))) 0 ≡ some p → ⊥
       go zero h e = omega arith
       go (suc b) h e = Option·none-ne-some _ e
 

@@ -1,5 +1,5 @@
 pub mod Finding
-pub mod Figures
+pub mod Contracts
 pub mod Outcomes
 pub mod FindingLaws
 pub mod FindLaws

@@ -6,9 +6,9 @@ ghost use Rattle.sheet.specs.Sheet.{Sheet};
 ghost use Rattle.sheet.specs.Accepted.{SheetHeld};
 ghost use Rattle.trees.specs.ValidTrees.{ruleWeight, totalOf};
 ghost use Rattle.pricing.specs.Pricing.{priced, pricedOf};
-ghost use Rattle.search.specs.Search.{SearchEntry};
+ghost use Rattle.search.specs.Contracts.{SearchPre};
 ghost use Rattle.finding.specs.Finding.{findSheet, Gives, Finds};
-ghost use Rattle.finding.specs.Figures.{weightIn, WeightEntry, FiguresEntry};
+ghost use Rattle.finding.specs.Contracts.{weightIn, WeightPre, FiguresPre};
 use expansions::PackedRules;
 use expansions::pack_rules;
 use expansions::rule_at;
@@ -40,9 +40,9 @@ fn weight_of(rule: Rule) -> u64
 
 // R of a list: the sum of the weights of its rules.
 fn weight_sum<'a>(rules: &'a PackedRules, list: &'a [u8]) -> u64
-    requires { ⌜ ((s : Sheet) × WeightEntry s (now rules) (now list)) ⌝ }
+    requires { ⌜ ((s : Sheet) × WeightPre s (now rules) (now list)) ⌝ }
     ensures { λ r. ⌜
-        ((s : Sheet) → WeightEntry s (now (rules .entry)) (now (list .entry)) → r ≡ ruleWeight s (now (list .entry)))
+        ((s : Sheet) → WeightPre s (now (rules .entry)) (now (list .entry)) → r ≡ ruleWeight s (now (list .entry)))
         ⌝ }
 {
     let mut sum: u64 = 0;
@@ -58,9 +58,9 @@ fn weight_sum<'a>(rules: &'a PackedRules, list: &'a [u8]) -> u64
 
 // What pricing a valid tree gives, where its total is known: the list need not be read against the onsets.
 fn figures(grammar: GrammarTable, list: &[u8], total: u64) -> Priced
-    requires { ⌜ ((s : Sheet) × (R : ℕ) × (D : ℕ) × FiguresEntry s grammar (now list) R D total) ⌝ }
+    requires { ⌜ ((s : Sheet) × (R : ℕ) × (D : ℕ) × FiguresPre s grammar (now list) R D total) ⌝ }
     ensures { λ r. ⌜
-        ((s : Sheet) (R D : ℕ) → FiguresEntry s grammar (now (list .entry)) R D total
+        ((s : Sheet) (R D : ℕ) → FiguresPre s grammar (now (list .entry)) R D total
         → r ≡ pricedOf (priced (length (now (list .entry))) R D (totalOf s R D)))
         ⌝ }
 {
@@ -83,8 +83,8 @@ fn find_least(
     tree: &mut [u8],
     work: &mut [u64],
 ) -> Priced
-    requires { ⌜ ((s : Sheet) × SearchEntry s grammar playing (now tree) (now work)) ⌝ }
-    ensures { λ r. ⌜ ((s : Sheet) → SearchEntry s grammar playing (now (tree .entry)) (now (work .entry))
+    requires { ⌜ ((s : Sheet) × SearchPre s grammar playing (now tree) (now work)) ⌝ }
+    ensures { λ r. ⌜ ((s : Sheet) → SearchPre s grammar playing (now (tree .entry)) (now (work .entry))
         → Gives (findSheet s (length (now (tree .entry))) (length (now (work .entry)))) (now (tree .entry)) (now (tree .exit))
         (now (work .entry)) (now (work .exit)) r) ⌝ }
 {

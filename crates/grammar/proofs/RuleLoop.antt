@@ -18,10 +18,10 @@ use Rattle.sheet.specs.Outcome.{refused}
 use Rattle.sheet.specs.Reading.{demand, byte, bytesFrom, lineOf, ruleRefusal, ruleOf, withRule, playingRefusal, inRules, rulesRefusal, refusal}
 use Rattle.sheet.specs.Reading.{after, readLines}
 use Rattle.sheet.specs.Held.{held, grammarTable, partsOf, childCells}
-use Rattle.grammar.specs.Steps.{cellOf, arityOf}
+use Rattle.grammar.specs.Contracts.{cellOf, arityOf}
 use Rattle.sheet.specs.Good.{GoodRules}
 use Rattle.sheet.specs.SoFar.{GoodProgress}
-use Rattle.grammar.specs.Steps.{RulesDone, RulesRead}
+use Rattle.grammar.specs.Contracts.{RulesDone, RulesRead}
 use Rattle.sheet.specs.Laws.{demand-zero, read-on, read-stop, end-in-rules}
 use Rattle.sheet.specs.GoodLaws.{Small, good-after}
 use Rattle.sheet.specs.Buffer.{byte-held, refusal-held, after-held}

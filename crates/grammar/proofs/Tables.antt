@@ -15,7 +15,7 @@ use Rattle.sheet.specs.Sheet.{Rule, Grammar}
 use Rattle.sheet.specs.Reading.{byte, two, bytesFrom, divisionRefusal, divisionOf, leafRefusal, leafOf, ruleRefusal, ruleOf, withRule}
 use Rattle.sheet.specs.Held.{noRule, ruleCell, partsOf, childCells, grammarTable}
 use Rattle.sheet.specs.Laws.{length-bytes, division-passed, leaf-passed}
-use Rattle.grammar.specs.Steps.{cellOf, arityOf}
+use Rattle.grammar.specs.Contracts.{cellOf, arityOf}
 
 module _ (l : Line) where
   pub cell-is : cellOf l ≡ ruleCell (ruleOf l)

@@ -7,7 +7,7 @@ ghost use Rattle.sheet.specs.Sheet.{Grammar};
 ghost use Rattle.sheet.specs.Reading.{demand, headRefusal, headOf, divisionRefusal, leafRefusal, ruleRefusal, allBelow, bytesFrom};
 ghost use Rattle.sheet.specs.Held.{grammarTable, noGrammar};
 ghost use Rattle.sheet.specs.Good.{GoodRules};
-ghost use Rattle.grammar.specs.Steps.{cellOf, arityOf, PartsPut, RulesRead};
+ghost use Rattle.grammar.specs.Contracts.{cellOf, arityOf, PartsPut, RulesRead};
 use sheet::CHILD_CELLS;
 use sheet::Children;
 use sheet::GrammarTable;

@@ -18,7 +18,7 @@ use Rattle.sheet.specs.SoFar.{GoodSoFar}
 use Rattle.sheet.specs.Laws.{read-on, read-stop}
 use Rattle.sheet.specs.GoodLaws.{good-start}
 use Rattle.sheet.specs.Buffer.{refusal-held, after-held, byte-held}
-use Rattle.playing.specs.Steps.{TakeRead, OnsetsRead}
+use Rattle.playing.specs.Contracts.{TakeRead, OnsetsRead}
 
 -- the timing of the line, from the code's number
 timing-is : (l : Line) (d : ℕ) → d ≡ four l 2 → timingOf l ≡ record { duration = d }

@@ -17,7 +17,7 @@ use Rattle.sheet.specs.Outcome.{Outcome, refused, accepted}
 use Rattle.sheet.specs.Reading.{byte, four, lineOf, onsetRefusal, onsetOf, withOnset, inOnsets, refusal, after, readLines}
 use Rattle.sheet.specs.Held.{held, units, playingTable, noGrammar, noPlaying, micros}
 use Rattle.sheet.specs.SoFar.{GoodSoFar}
-use Rattle.playing.specs.Steps.{latestOf, OnsetStepped, TakeRead}
+use Rattle.playing.specs.Contracts.{latestOf, OnsetStepped, TakeRead}
 use Rattle.sheet.specs.Clock.{first-bar}
 use Rattle.sheet.specs.Laws.{cond-zero, onset-passed, read-on, read-stop, end-without, end-with}
 use Rattle.sheet.specs.GoodLaws.{good-onset}

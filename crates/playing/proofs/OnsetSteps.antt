@@ -19,7 +19,7 @@ use Rattle.sheet.specs.Reading.{refusal}
 use Rattle.sheet.specs.Held.{held}
 use Rattle.sheet.specs.Clock.{div-mono, unit-mono}
 use Rattle.sheet.specs.Laws.{first-met, first-failed, moment-passed}
-use Rattle.playing.specs.Steps.{latestOf, runIn, OnsetStepped}
+use Rattle.playing.specs.Contracts.{latestOf, runIn, OnsetStepped}
 use Rattle.sheet.specs.SoFar.{GoodSoFar}
 use Rattle.sheet.specs.GoodLaws.{in-bar-more}
 use Rattle.sheet.specs.Buffer.{refusal-held, four-held, onset-of-held}

@@ -6,7 +6,7 @@ ghost use Rattle.sheet.specs.Sheet.{Grammar};
 ghost use Rattle.sheet.specs.Reading.{playingRefusal, onsetForm, momentRefusal, roomRefusal};
 ghost use Rattle.sheet.specs.Held.{playingTable, noPlaying};
 ghost use Rattle.sheet.specs.SoFar.{GoodSoFar};
-ghost use Rattle.playing.specs.Steps.{timingIn, runIn, OnsetStepOf, OnsetsRead, PlayingRead};
+ghost use Rattle.playing.specs.Contracts.{timingIn, runIn, OnsetStepOf, OnsetsRead, PlayingRead};
 use sheet::BAR_ONSETS_MOST;
 use sheet::BAR_UNITS;
 use sheet::BARS_MOST;

@@ -27,7 +27,7 @@ use Rattle.pricing.specs.declared.Walk.{Walk}
 use Rattle.pricing.specs.declared.Walk.the-variants.{Stuck, Upto}
 use Rattle.pricing.specs.Pricing.{priced, noTree, priceSheet, pricedOf}
 use Rattle.pricing.specs.PricingLaws.{not-derived, carried-out, all-derived, none-refused}
-use Rattle.pricing.specs.Steps.{RowEntry, RowWalked, unread, BarsWalked}
+use Rattle.pricing.specs.Contracts.{ForestPre, ForestWalked, unread, BarsWalked}
 
 -- ---- how far the list was read
 
@@ -100,7 +100,7 @@ module _ {s : Sheet} {g : GrammarTable} {p : PlayingTable} (h : SheetHeld s g p)
 
   pub bars-entry : (cells units list kids : List ℕ) → PackedRules (s .grammar) cells → units ≡ unitCells (s .playing)
       → length list ≤ p .bars + 80 * p .count → kids ≡ take (p .bars) (replicate 64 (g .start))
-      → RowEntry s cells (g .children) units list kids (interval 0 20160) unread
+      → ForestPre s cells (g .children) units list kids (interval 0 20160) unread
   unfolding grammarTable
   bars-entry cells units list kids r u k e =
       let size : length kids ≡ s .playing .bars = ap length (starts kids e) ∙ length-replicate (s .playing .bars) (s .grammar .start) in
@@ -127,7 +127,7 @@ module _ {s : Sheet} {g : GrammarTable} {p : PlayingTable} (h : SheetHeld s g p)
       }
 
   pub bars-walked : (list kids : List ℕ) → kids ≡ take (p .bars) (replicate 64 (g .start)) → (w : Walk)
-      → RowWalked s list kids (interval 0 20160) unread w → BarsWalked s list w
+      → ForestWalked s list kids (interval 0 20160) unread w → BarsWalked s list w
   unfolding bars
   bars-walked list kids e Stuck t = rw (starts kids e) at t
   bars-walked list kids e (Upto n) t = rw (starts kids e) at (t .0)

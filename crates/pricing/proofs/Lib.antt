@@ -1,3 +1,3 @@
-pub mod RowSteps
+pub mod ForestSteps
 pub mod TreeSteps
 pub mod BarSteps

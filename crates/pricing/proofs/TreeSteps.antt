@@ -29,7 +29,7 @@ use Rattle.expansions.specs.Places.{first-next, first-most}
 use Rattle.pricing.specs.declared.Progress.{Progress}
 use Rattle.pricing.specs.declared.Walk.{Walk}
 use Rattle.pricing.specs.declared.Walk.the-variants.{Stuck, Upto}
-use Rattle.pricing.specs.Steps.{progressBehind, Room, NotPassed, ItemEntry, ItemWalked, RowEntry, RowWalked}
+use Rattle.pricing.specs.Contracts.{progressBehind, Room, NotPassed, ItemPre, ItemWalked, ForestPre, ForestWalked}
 
 -- the weights of a sheet's rules
 weight-at : (s : Sheet) (r : ℕ) (ru : Rule) (w : ℕ) → ruleAt s r ≡ some ru → weightOf ru ≡ w → instanceOf s .weight r ≡ w
@@ -40,7 +40,7 @@ good-rule : (s : Sheet) → GoodRules (s .grammar) → (r : ℕ) (ru : Rule) →
 good-rule s g r ru e = every-some (GoodRule (s .grammar .nonterminals)) (s .grammar .rules) r ru (g .rules) e
 
 module _ {s : Sheet} {cells children units list : List ℕ} {over : Interval} {p : Progress}
-    (h : ItemEntry s cells children units list over p) where
+    (h : ItemPre s cells children units list over p) where
   -- what `expand` asks
   pub item-at : At s cells units over (p .from) (p .carried)
   item-at =
@@ -187,7 +187,7 @@ module _ {s : Sheet} {cells children units list : List ℕ} {over : Interval} {p
           rw (e, h .lent .kids, m .count)
           (parts-of (s .grammar .rules) r q w (m .parts) (m .rule) (good-parts .eight) (h .lent .rules .good .most))
 
-      row-entry : RowEntry s cells children units list (m .parts) (interval (over .left .0) (over .len .0 / a))
+      row-entry : ForestPre s cells children units list (m .parts) (interval (over .left .0) (over .len .0 / a))
           (progressBehind p 0 (p .carried) w 0)
       row-entry =
           record {
@@ -207,11 +207,11 @@ module _ {s : Sheet} {cells children units list : List ℕ} {over : Interval} {p
           }
 
       pub parts-entry : (kids : List ℕ) (n : Progress) → kids ≡ m .parts → n ≡ progressBehind p 0 (p .carried) w 0
-          → RowEntry s cells children units list kids (interval (over .left .0) (over .len .0 / a)) n
+          → ForestPre s cells children units list kids (interval (over .left .0) (over .len .0 / a)) n
       parts-entry kids n e f = rw (e, f) row-entry
 
       division-walked : (x : Walk)
-          → RowWalked s list (m .parts) (interval (over .left .0) (over .len .0 / a)) (progressBehind p 0 (p .carried) w 0) x
+          → ForestWalked s list (m .parts) (interval (over .left .0) (over .len .0 / a)) (progressBehind p 0 (p .carried) w 0) x
           → ItemWalked s list q over p x
       unfolding atDivision
       division-walked Stuck t =
@@ -234,10 +234,10 @@ module _ {s : Sheet} {cells children units list : List ℕ} {over : Interval} {p
           )
 
       pub parts-walked : (kids : List ℕ) (n : Progress) → kids ≡ m .parts → n ≡ progressBehind p 0 (p .carried) w 0 → (x : Walk)
-          → (RowEntry s cells children units list kids (interval (over .left .0) (over .len .0 / a)) n
-          → RowWalked s list kids (interval (over .left .0) (over .len .0 / a)) n x)
+          → (ForestPre s cells children units list kids (interval (over .left .0) (over .len .0 / a)) n
+          → ForestWalked s list kids (interval (over .left .0) (over .len .0 / a)) n x)
           → ItemWalked s list q over p x
       parts-walked kids n e f x t =
           let first = interval (over .left .0) (over .len .0 / a) in
-          let row = subst (λ ks. RowWalked s list ks first n x) e (t (parts-entry kids n e f)) in
-          division-walked x (subst (λ n. RowWalked s list (m .parts) first n x) f row)
+          let row = subst (λ ks. ForestWalked s list ks first n x) e (t (parts-entry kids n e f)) in
+          division-walked x (subst (λ n. ForestWalked s list (m .parts) first n x) f row)

@@ -7,7 +7,7 @@ ghost use Rattle.sheet.specs.Sheet.{Sheet};
 ghost use Rattle.sheet.specs.Accepted.{SheetHeld};
 ghost use Rattle.sheet.specs.Outcome as outcome;
 ghost use Rattle.pricing.specs.Pricing.{priceSheet, pricedOf, Prices};
-ghost use Rattle.pricing.specs.Steps.{Room, progressBehind, ItemEntry, ItemWalked, RowEntry, RowWalked, BarsWalked};
+ghost use Rattle.pricing.specs.Contracts.{Room, progressBehind, ItemPre, ItemWalked, ForestPre, ForestWalked, BarsWalked};
 use expansions::Expansion;
 use expansions::Interval;
 use expansions::PackedRules;
@@ -73,9 +73,9 @@ fn read_tree<'a>(
     over: Interval,
     p: Progress,
 ) -> Walk
-    requires { ⌜ ((s : Sheet) × ItemEntry s (now rules) (now children) (now units) (now list) over p) ⌝ }
+    requires { ⌜ ((s : Sheet) × ItemPre s (now rules) (now children) (now units) (now list) over p) ⌝ }
     ensures { λ r. ⌜
-        ((s : Sheet) → ItemEntry s (now (rules .entry)) (now (children .entry)) (now (units .entry)) (now (list .entry)) over p
+        ((s : Sheet) → ItemPre s (now (rules .entry)) (now (children .entry)) (now (units .entry)) (now (list .entry)) over p
         → ItemWalked s (now (list .entry)) nonterminal over p r)
         ⌝ }
 {
@@ -101,13 +101,13 @@ fn read_tree<'a>(
             let from = PARTS_MOST * (r as usize);
             let kids = &children[from..from + (arity as usize)];
             let next = behind(p, 0, p.carried, weight, 0);
-            read_row(rules, children, units, list, kids, first, next)
+            read_forest(rules, children, units, list, kids, first, next)
         }
     }
 }
 
 // Reads the trees of intervals in a row, each under its own nonterminal, off the list; `first` is the first of the intervals.
-fn read_row<'a>(
+fn read_forest<'a>(
     rules: &'a PackedRules,
     children: &'a [u8],
     units: &'a PackedUnits,
@@ -116,11 +116,11 @@ fn read_row<'a>(
     first: Interval,
     p: Progress,
 ) -> Walk
-    requires { ⌜ ((s : Sheet) × RowEntry s (now rules) (now children) (now units) (now list) (now kids) first p) ⌝ }
+    requires { ⌜ ((s : Sheet) × ForestPre s (now rules) (now children) (now units) (now list) (now kids) first p) ⌝ }
     ensures { λ r. ⌜
         ((s : Sheet)
-        → RowEntry s (now (rules .entry)) (now (children .entry)) (now (units .entry)) (now (list .entry)) (now (kids .entry)) first p
-        → RowWalked s (now (list .entry)) (now (kids .entry)) first p r)
+        → ForestPre s (now (rules .entry)) (now (children .entry)) (now (units .entry)) (now (list .entry)) (now (kids .entry)) first p
+        → ForestWalked s (now (list .entry)) (now (kids .entry)) first p r)
         ⌝ }
 {
     let len = first.len.0;
@@ -214,7 +214,7 @@ pub fn price_sheet(grammar: GrammarTable, playing: PlayingTable, list: &[u8]) ->
         weight: 0,
         distance: 0,
     };
-    let w = read_row(
+    let w = read_forest(
         &rules,
         &grammar.children,
         &units,

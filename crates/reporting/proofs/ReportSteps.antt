@@ -27,7 +27,7 @@ use Rattle.pricing.specs.PricingLaws.{tree-priced}
 use Rattle.score.specs.declared.Written.{Written}
 use Rattle.score.specs.Score.{treeText}
 use Rattle.score.specs.Writing.{noRoom, textWithin, writePriced, writeSheet, writtenOf, scoreAfter}
-use Rattle.score.specs.Steps.{PricedEntry}
+use Rattle.score.specs.Contracts.{PricedPre}
 use Rattle.finding.specs.Finding.{Search, noTree, found, findSheet, findText, Gives}
 use Rattle.finding.specs.FindingLaws.{TreeHandedBack, tree-handed-back}
 use Rattle.reporting.specs.declared.Shown.{Shown}
@@ -97,8 +97,8 @@ module _ {s : Sheet} {g : GrammarTable} {p : PlayingTable} (h : SheetHeld s g p)
     abbrev bytes : List ℕ
     bytes = take (x .nodes) treeAfter
 
-    pub priced-entry : PricedEntry s g p bytes x
-    priced-entry = record { held = h; own = back .own }
+    pub priced-pre : PricedPre s g p bytes x
+    priced-pre = record { held = h; own = back .own }
 
     abbrev lines : List ℕ
     lines = treeText s bytes (x .weight) (x .distance) (totalOf s (x .weight) (x .distance))

@@ -13,7 +13,7 @@ use Rattle.sheet.specs.Cases.{S, sheetS, S-means}
 use Rattle.sizes.specs.Cases.{S-tree, S-work}
 use Rattle.derivations.specs.Derivation.{onto}
 use Rattle.derivations.specs.Minima.{lowest}
-use Rattle.derivations.specs.Table.{via, forward}
+use Rattle.derivations.specs.Folds.{via, forward}
 use Rattle.trees.specs.ValidTrees.{whose, distanceTo}
 use Rattle.trees.specs.LeastTotal.{leastTotal}
 use Rattle.trees.specs.Found.{LeastTree}

@@ -12,8 +12,8 @@ use Rattle.sheet.specs.Sheet.{Sheet}
 use Rattle.sheet.specs.Good.{GoodRules}
 use Rattle.derivations.specs.Derivation.{Item, Expansion}
 use Rattle.derivations.specs.Minima.{lowest, only}
-use Rattle.derivations.specs.Table.{Cells, forward, onward}
-use Rattle.trees.specs.ValidTrees.{row}
+use Rattle.derivations.specs.Folds.{Cells, forward, onward}
+use Rattle.trees.specs.ValidTrees.{adjoining}
 use Rattle.trees.specs.Instance.{onsetsIn, lateCount, atDivision, instanceOf}
 use Rattle.trees.specs.LeastTotal.{NONE, carries, cellOf}
 use Rattle.trees.specs.Expansions.{Step, DivisionStep, step-of, may-divide, parts-whole}
@@ -71,9 +71,9 @@ module _ (s : Sheet) where
         some-none [] f h e = absurd (h refl)
         some-none (x ∷ xs) f h e = forward-none (cellOf s) x xs f m e
 
-        row-some : (l p : ℕ) (ks : List ℕ) → 2 ≤ length ks → row l p ks ≡ [] → ⊥
+        row-some : (l p : ℕ) (ks : List ℕ) → 2 ≤ length ks → adjoining l p ks ≡ [] → ⊥
         row-some l p [] h e = absurd (not-suc-le-zero h)
-        row-some l p (k ∷ ks) h e = let no-item : 0 ≡ suc (length (row (l + p) p ks)) = sym (ap length e) in omega arith
+        row-some l p (k ∷ ks) h e = let no-item : 0 ≡ suc (length (adjoining (l + p) p ks)) = sym (ap length e) in omega arith
 
         divided : (r : ℕ) (x : Expansion) → instanceOf s .expand g c r ≡ some x → DivisionStep s g c r x → x .parts ≡ [] → ⊥
         divided r x e d k =

@@ -15,9 +15,9 @@ use Rattle.sheet.specs.Sheet.{Rule, division, leaf, Sheet}
 use Rattle.sheet.specs.Good.{GoodRules}
 use Rattle.derivations.specs.Derivation.{Item, Expansion}
 use Rattle.derivations.specs.Minima.{lowest, only}
-use Rattle.derivations.specs.Table.{via, ruleTotal, forward}
+use Rattle.derivations.specs.Folds.{via, ruleTotal, forward}
 use Rattle.derivations.specs.Cells.{cell-cap, cell-step}
-use Rattle.trees.specs.ValidTrees.{onsetsBefore, row, ruleAt, mayDivide, token, weightOf, weightAt}
+use Rattle.trees.specs.ValidTrees.{onsetsBefore, adjoining, ruleAt, mayDivide, token, weightOf, weightAt}
 use Rattle.trees.specs.Instance.{onsetsIn, earlyCount, lateCount, ownDistance, atLeaf, atDivision, instanceOf}
 use Rattle.trees.specs.LeastTotal.{NONE, carries, cellOf}
 use Rattle.trees.specs.Expansions.{Step, step-of, leaf-expands, division-expands, may-divide}
@@ -204,7 +204,7 @@ module _ (s : Sheet) where
     pub division-total : (w p : ℕ) (ks : List ℕ) → ruleAt s r ≡ some (division (g .nonterminal) w ks) → 0 < length ks
         → g .len ≡ length ks * p → 0 < onsetsIn s (g .left) (g .len)
         → divisionTotal s g c m r
-        ≡ s .grammar .multiplier * weightAt s r + forward carries NONE (cellOf s) (row (g .left) p ks) (only NONE c) m
+        ≡ s .grammar .multiplier * weightAt s r + forward carries NONE (cellOf s) (adjoining (g .left) p ks) (only NONE c) m
     unfolding divisionTotal atDivision mayDivide onsetsIn
     division-total w p ks e h len on =
         let zero-rest : g .len % length ks ≡ 0 = ap (λ (n : ℕ). n % length ks) len ∙ mul-mod-right (length ks) p in

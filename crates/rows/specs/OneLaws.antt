@@ -10,13 +10,13 @@ use Rattle.sheet.specs.Sheet.{Sheet}
 use Rattle.sheet.specs.Good.{GoodRules}
 use Rattle.derivations.specs.Derivation.{Item}
 use Rattle.derivations.specs.Minima.{lowest, only, only-same}
-use Rattle.derivations.specs.Table.{Cells, forward, onward}
-use Rattle.trees.specs.ValidTrees.{onsetsBefore, row, token}
+use Rattle.derivations.specs.Folds.{Cells, forward, onward}
+use Rattle.trees.specs.ValidTrees.{onsetsBefore, adjoining, token}
 use Rattle.trees.specs.Kinds.{kind-before}
 use Rattle.trees.specs.Instance.{onsetsIn}
 use Rattle.trees.specs.LeastTotal.{NONE, carries, cellOf}
 use Rattle.trees.specs.Onsets.{onsets-add}
-use Rattle.trees.specs.Laws.{row-append}
+use Rattle.trees.specs.Laws.{adjoining-append}
 use Rattle.plan.specs.Plan.{leastLeaf}
 use Rattle.plan.specs.PlanLaws.{least-leaf-most}
 use Rattle.rows.specs.CellLaws.{cell-empty}
@@ -115,7 +115,7 @@ module _ (s : Sheet) (good : GoodRules (s .grammar)) where
 
   -- over a row without an onset
   over-row : (l p : ℕ) (qs : List ℕ) (f : ℕ → ℕ) (a : ℕ) → a ≤ NONE → onsetsIn s l (length qs * p) ≡ 0 → Two f a NONE
-      → Two (forward carries NONE (cellOf s) (row l p qs) f) (min NONE (a + leafSum s qs)) NONE
+      → Two (forward carries NONE (cellOf s) (adjoining l p qs) f) (min NONE (a + leafSum s qs)) NONE
   unfolding forward
   over-row l p [] f a low e t =
       record { zeroth = omega (arith, t .zeroth); first = t .first; second = t .second; third = t .third }
@@ -130,7 +130,7 @@ module _ (s : Sheet) (good : GoodRules (s .grammar)) where
 
   -- behind an item that leaves a and b, over a row without an onset
   over-behind : (l p : ℕ) (qs : List ℕ) (f : ℕ → ℕ) (a b : ℕ) → 0 < length qs → onsetsIn s l (length qs * p) ≡ 0 → Two f a b
-      → Two (forward carries NONE (cellOf s) (row l p qs) f) (min NONE (min (a + leafSumFrom s 0 qs) (b + leafSumFrom s 1 qs))) NONE
+      → Two (forward carries NONE (cellOf s) (adjoining l p qs) f) (min NONE (min (a + leafSumFrom s 0 qs) (b + leafSumFrom s 1 qs))) NONE
   unfolding forward
   over-behind l p [] f a b some-part e t = absurd (not-suc-le-zero some-part)
   over-behind l p (q ∷ qs) f a b some-part e t =
@@ -148,24 +148,24 @@ module _ (s : Sheet) (good : GoodRules (s .grammar)) where
     theOne = record { nonterminal = k; left = l + length xs * p; len = p }
 
     abbrev wholeRow : ℕ → ℕ
-    wholeRow = forward carries NONE (cellOf s) (row l p (xs ++ (k ∷ ys))) (only NONE 0)
+    wholeRow = forward carries NONE (cellOf s) (adjoining l p (xs ++ (k ∷ ys))) (only NONE 0)
 
     upTo : ℕ → ℕ
-    upTo = past theOne (forward carries NONE (cellOf s) (row l p xs) (only NONE 0))
+    upTo = past theOne (forward carries NONE (cellOf s) (adjoining l p xs) (only NONE 0))
 
     up-to-is : Two upTo (min NONE (cellOf s theOne 0 0 + leafSum s xs)) (min NONE (cellOf s theOne 0 1 + leafSum s xs))
     unfolding upTo only
     up-to-is =
         let start : Two (only NONE 0) 0 NONE = record { zeroth = refl; first = refl; second = refl; third = refl } in
         two-eq (omega arith) (omega arith)
-        (over-one theOne (forward carries NONE (cellOf s) (row l p xs) (only NONE 0)) (min NONE (0 + leafSum s xs)) here
+        (over-one theOne (forward carries NONE (cellOf s) (adjoining l p xs) (only NONE 0)) (min NONE (0 + leafSum s xs)) here
         (over-row l p xs (only NONE 0) 0 (omega arith) before start))
 
-    row-is : (m : ℕ) → wholeRow m ≡ forward carries NONE (cellOf s) (row (l + length xs * p + p) p ys) upTo m
+    row-is : (m : ℕ) → wholeRow m ≡ forward carries NONE (cellOf s) (adjoining (l + length xs * p + p) p ys) upTo m
     unfolding upTo forward
     row-is m =
-        ap (λ gs. forward carries NONE (cellOf s) gs (only NONE 0) m) (row-append l p xs (k ∷ ys))
-        ∙ forward-append carries NONE (cellOf s) (row l p xs) (row (l + length xs * p) p (k ∷ ys)) (only NONE 0) m
+        ap (λ gs. forward carries NONE (cellOf s) gs (only NONE 0) m) (adjoining-append l p xs (k ∷ ys))
+        ∙ forward-append carries NONE (cellOf s) (adjoining l p xs) (adjoining (l + length xs * p) p (k ∷ ys)) (only NONE 0) m
 
     -- it is the last part
     pub one-last : length ys ≡ 0
@@ -173,7 +173,7 @@ module _ (s : Sheet) (good : GoodRules (s .grammar)) where
     unfolding forward
     one-last e = two-same row-is (go ys e)
       where
-        go : (zs : List ℕ) → length zs ≡ 0 → Two (forward carries NONE (cellOf s) (row (l + length xs * p + p) p zs) upTo)
+        go : (zs : List ℕ) → length zs ≡ 0 → Two (forward carries NONE (cellOf s) (adjoining (l + length xs * p + p) p zs) upTo)
             (min NONE (cellOf s theOne 0 0 + leafSum s xs)) (min NONE (cellOf s theOne 0 1 + leafSum s xs))
         go [] k = two-same (λ m. refl) up-to-is
         go (z ∷ zs) k = let none : ⊥ = omega arith in absurd none

@@ -13,8 +13,8 @@ use Rattle.sheet.specs.Sheet.{Sheet}
 use Rattle.sheet.specs.Good.{GoodRules, GoodOnsets}
 use Rattle.derivations.specs.Derivation.{Item}
 use Rattle.derivations.specs.Minima.{lowest, lowest-cap, only}
-use Rattle.derivations.specs.Table.{forward}
-use Rattle.trees.specs.ValidTrees.{onsetsBefore, row, token, weightAt}
+use Rattle.derivations.specs.Folds.{forward}
+use Rattle.trees.specs.ValidTrees.{onsetsBefore, adjoining, token, weightAt}
 use Rattle.trees.specs.Kinds.{kind-before}
 use Rattle.trees.specs.Instance.{onsetsIn, earlyCount, lateCount, ownDistance}
 use Rattle.trees.specs.LeastTotal.{NONE, carries, cellOf}
@@ -57,7 +57,7 @@ length-middle (x ∷ xs) k ys = omega (arith, length-middle xs k ys)
 
 module _ (s : Sheet) (good : GoodRules (s .grammar)) (l p : ℕ) where
   abbrev fold : List ℕ → ℕ → ℕ
-  fold ks = forward carries NONE (cellOf s) (row l p ks) (only NONE 0)
+  fold ks = forward carries NONE (cellOf s) (adjoining l p ks) (only NONE 0)
 
   -- to carry state 0: by the onset's part to 0, or to 1 where a part is behind it; to 1: by the last part to 1
   abbrev Last : List ℕ → ℕ → Type 0

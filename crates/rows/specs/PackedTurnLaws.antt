@@ -10,7 +10,7 @@ use Rattle.sheet.specs.Sheet.{Sheet}
 use Rattle.sheet.specs.Good.{GoodRules}
 use Rattle.derivations.specs.Derivation.{Item}
 use Rattle.derivations.specs.Minima.{lowest, only, only-same}
-use Rattle.derivations.specs.Table.{forward}
+use Rattle.derivations.specs.Folds.{forward}
 use Rattle.trees.specs.ValidTrees.{weightAt}
 use Rattle.trees.specs.Instance.{lateCount, ownDistance}
 use Rattle.trees.specs.LeastTotal.{NONE, carries, cellOf}

@@ -17,10 +17,10 @@ use Rattle.sheet.specs.Good.{GoodDivision}
 use Rattle.sheet.specs.Held.{units}
 use Rattle.derivations.specs.Derivation.{Item}
 use Rattle.derivations.specs.Minima.{lowest, lowest-cap, only, only-cap}
-use Rattle.derivations.specs.Table.{Cells, forward, onward, forward-snoc}
-use Rattle.trees.specs.ValidTrees.{row, ruleAt}
+use Rattle.derivations.specs.Folds.{Cells, forward, onward, forward-snoc}
+use Rattle.trees.specs.ValidTrees.{adjoining, ruleAt}
 use Rattle.trees.specs.LeastTotal.{NONE, carries, cellOf}
-use Rattle.trees.specs.Laws.{row-append}
+use Rattle.trees.specs.Laws.{adjoining-append}
 use Rattle.trees.specs.Room.{good-division}
 use Rattle.trees.specs.Intervals.{Aligned, aligned-part}
 use Rattle.expansions.specs.Tables.{UnitsHeld, lastUnit}
@@ -154,10 +154,10 @@ module _ {s : Sheet} {plan us rows : List ℕ} {bar : Bar} {r i k l : ℕ} {left
             let so-many : length (take n kidsOf) ≡ n = omega (arith, length-take n kidsOf, more) in
             let along : left .0 + n * p ≡ lo = omega (arith, e .left-is, is, ap (λ (x : ℕ). x * p) ej, add-mul i n p) in
             let there : left .0 + length (take n kidsOf) * p ≡ lo = ap (λ (x : ℕ). left .0 + x * p) so-many ∙ along in
-            ap (row (left .0) p) (ap (λ (x : ℕ). take x kidsOf) (add-one n) ∙ take-suc kidsOf n 0 more)
-            ∙ row-append (left .0) p (take n kidsOf) (kid ∷ [])
-            ∙ ap (λ (x : ℕ). gs ++ row x p (kid ∷ [])) there
-            ∙ ap (λ (x : ℕ). gs ++ row lo p (x ∷ [])) is-kid
+            ap (adjoining (left .0) p) (ap (λ (x : ℕ). take x kidsOf) (add-one n) ∙ take-suc kidsOf n 0 more)
+            ∙ adjoining-append (left .0) p (take n kidsOf) (kid ∷ [])
+            ∙ ap (λ (x : ℕ). gs ++ adjoining x p (kid ∷ [])) there
+            ∙ ap (λ (x : ℕ). gs ++ adjoining lo p (x ∷ [])) is-kid
 
   -- all are taken
   pub parts-all : {now v : List ℕ} {n lo at : ℕ} → k ≤ i + n → PartsDone s now kidsOf l left c n lo at v → Parted s now r i l left c v

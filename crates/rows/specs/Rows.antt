@@ -8,8 +8,8 @@ use Rattle.sheet.specs.declared.clock.Units.{Units}
 use Rattle.sheet.specs.Sheet.{division, Sheet, barUnits}
 use Rattle.derivations.specs.Derivation.{Item}
 use Rattle.derivations.specs.Minima.{lowest, only}
-use Rattle.derivations.specs.Table.{forward}
-use Rattle.trees.specs.ValidTrees.{row, ruleAt}
+use Rattle.derivations.specs.Folds.{forward}
+use Rattle.trees.specs.ValidTrees.{adjoining, ruleAt}
 use Rattle.trees.specs.LeastTotal.{NONE, carries, cellOf}
 use Rattle.trees.specs.Intervals.{Aligned}
 use Rattle.expansions.specs.Items.{firstAt, Entered}
@@ -89,7 +89,7 @@ pub record PartsEntry (s : Sheet) (plan units rows : List ℕ) (bar : Bar) (r i 
 
 -- the intervals of the parts, under their nonterminals
 abbrev pub partsAt : Sheet → (l : ℕ) → Units → List ℕ → List Item
-partsAt s l left kids = row (left .0) (lengthAt s l) kids
+partsAt s l left kids = adjoining (left .0) (lengthAt s l) kids
 
 -- x is the vector over the parts of rule r from part i on, from carry state c to each
 pub record Parted (s : Sheet) (rows : List ℕ) (r i l : ℕ) (left : Units) (c : ℕ) (x : List ℕ) : Type 0 where

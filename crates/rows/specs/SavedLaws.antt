@@ -15,9 +15,9 @@ use Rattle.sheet.specs.Sheet.{Rule, division, leaf, Sheet}
 use Rattle.sheet.specs.Good.{GoodRule, GoodRules}
 use Rattle.derivations.specs.Derivation.{Item, Expansion}
 use Rattle.derivations.specs.Minima.{lowest, lowest-cap, only}
-use Rattle.derivations.specs.Table.{Cells, onward, forward}
+use Rattle.derivations.specs.Folds.{Cells, onward, forward}
 use Rattle.derivations.specs.Cells.{EveryPart, depth-rec}
-use Rattle.trees.specs.ValidTrees.{onsetsBefore, row, ruleAt, token}
+use Rattle.trees.specs.ValidTrees.{onsetsBefore, adjoining, ruleAt, token}
 use Rattle.trees.specs.Kinds.{kind-before}
 use Rattle.trees.specs.Instance.{earlyCount, lateCount, ownDistance, atDivision, instanceOf}
 use Rattle.trees.specs.LeastTotal.{NONE, carries, cellOf}
@@ -124,7 +124,7 @@ onward-only y low (suc (suc (suc (suc c)))) h = let no-more : ⊥ = omega arith 
 -- ---- what a carry saves of a cell
 
 -- a division has parts
-row-some : (l p : ℕ) (qs : List ℕ) → 2 ≤ length qs → 0 < length (row l p qs)
+row-some : (l p : ℕ) (qs : List ℕ) → 2 ≤ length qs → 0 < length (adjoining l p qs)
 row-some l p [] h = let no-more : ⊥ = omega arith in absurd no-more
 row-some l p (q ∷ qs) h = omega arith
 
@@ -176,7 +176,7 @@ module _ (s : Sheet) (good : GoodRules (s .grammar)) (c : ℕ) (few : c < 4) whe
           arith,
           total-some s g c m r (atDivision g c ks) is,
           total-some s g 0 m r (atDivision g 0 ks) from-none,
-          parts-saved (row (g .left) (g .len / length ks) ks)
+          parts-saved (adjoining (g .left) (g .len / length ks) ks)
               (row-some (g .left) (g .len / length ks) ks (good-division s good r (g .nonterminal) (d .weight) ks (d .rule) .two))
               (parts c r (atDivision g c ks) is) m hm,
         )

@@ -8,7 +8,7 @@ use lib.ListN.{length, drop, replicate, length-replicate}
 use Rattle.slices.specs.Over.{overFrom, over-from-nil}
 use Rattle.sheet.specs.Sheet.{Sheet, barUnits}
 use Rattle.derivations.specs.Derivation.{Price, derive}
-use Rattle.trees.specs.ValidTrees.{row, bars, placedFrom, Priced}
+use Rattle.trees.specs.ValidTrees.{adjoining, bars, placedFrom, Priced}
 use Rattle.trees.specs.Instance.{instanceOf, Derived}
 use Rattle.trees.specs.Equivalence.{valid-derived}
 use Rattle.trees.specs.Found.{own-price}
@@ -16,8 +16,8 @@ use Rattle.trees.specs.Leaves.{leavesFrom, entriesOf}
 use Rattle.expansions.specs.Places.{first-zero}
 use Rattle.score.specs.declared.tree.Place.{Place}
 use Rattle.score.specs.Score.{leafLines, entryLines}
-use Rattle.score.specs.Steps.{carriedInto, textLeft, BarsEntry, BarsWritten}
-use Rattle.score.proofs.PartsSteps.{PartsEntry, PartsUpto, parts-all}
+use Rattle.score.specs.Contracts.{carriedInto, textLeft, BarsPre, BarsWritten}
+use Rattle.score.proofs.PartsSteps.{PartsPre, PartsUpto, parts-all}
 
 -- the piece's begin
 abbrev pub begin : (to : ℕ) → Place
@@ -30,9 +30,9 @@ roots s = replicate (s .playing .bars) (s .grammar .start)
 abbrev pub BarsUpto : Sheet → (list : List ℕ) (to : ℕ) (score : List ℕ) (b : ℕ) (x : Place) (score′ : List ℕ) → Type 0
 BarsUpto s list to score = PartsUpto s [] (roots s) list 0 barUnits (begin to) score
 
-bars-row : (s : Sheet) → row 0 barUnits (roots s) ++ [] ≡ bars s
+bars-row : (s : Sheet) → adjoining 0 barUnits (roots s) ++ [] ≡ bars s
 unfolding bars
-bars-row s = append-nil (row 0 barUnits (roots s))
+bars-row s = append-nil (adjoining 0 barUnits (roots s))
 
 -- no item is left: no text is left
 nothing-left : (s : Sheet) (list : List ℕ) (x : Place) → textLeft s list [] x ≡ []
@@ -43,7 +43,7 @@ nothing-left s list x = go (drop (x .at) list)
     go [] = refl
     go (r ∷ xs) = refl
 
-module _ {s : Sheet} {cells us ps list : List ℕ} {count to : ℕ} {score : List ℕ} (h : BarsEntry s cells us ps list count to score) where
+module _ {s : Sheet} {cells us ps list : List ℕ} {count to : ℕ} {score : List ℕ} (h : BarsPre s cells us ps list count to score) where
   read : (price : Price) × (derive (instanceOf s) list (bars s) 0 ≡ some price)
   unfolding Derived
   read = go (own-price s list (h .valid))
@@ -51,14 +51,14 @@ module _ {s : Sheet} {cells us ps list : List ℕ} {count to : ℕ} {score : Lis
       go : (R : ℕ) × (D : ℕ) × Priced s list R D → (price : Price) × (derive (instanceOf s) list (bars s) 0 ≡ some price)
       go (R, D, v) = (_, valid-derived s list R D v)
 
-  whole-text : textLeft s list (row 0 barUnits (roots s) ++ []) (begin to) ≡ entryLines (entriesOf s list)
+  whole-text : textLeft s list (adjoining 0 barUnits (roots s) ++ []) (begin to) ≡ entryLines (entriesOf s list)
   whole-text = ap (λ gs. entryLines (placedFrom s [] (leavesFrom s list gs))) (bars-row s)
 
   -- bar b is one of them
   pub bar-left : {b : ℕ} → b < count → b < length (roots s)
   bar-left k = omega (arith, k, h .bars, length-replicate (s .playing .bars) (s .grammar .start))
 
-  pub bars-entry : PartsEntry s [] (roots s) cells us ps list 0 barUnits (begin to) score
+  pub bars-entry : PartsPre s [] (roots s) cells us ps list 0 barUnits (begin to) score
   bars-entry =
       record {
         rules = h .rules;

@@ -27,7 +27,7 @@ use Rattle.expansions.specs.Places.{inside-then, first-next}
 use Rattle.score.specs.declared.tree.Place.{Place}
 use Rattle.score.specs.Score.{leafLine, scoreLeaf}
 use Rattle.score.specs.ScoreLaws.{leaf-line-bytes}
-use Rattle.score.specs.Steps.{pitchCells, leafOver, LineHeld, carriedInto, StandsAt, entryAt, leafText, LeafEntry, LeafWritten}
+use Rattle.score.specs.Contracts.{pitchCells, leafOver, LineHeld, carriedInto, StandsAt, entryAt, leafText, LeafPre, LeafWritten}
 
 -- ---- lists
 
@@ -95,7 +95,7 @@ module _ (s : Sheet) (good : GoodOnsets (s .playing)) (left len : ℕ) (within :
 abbrev pub behindLeaf : Place → Placed → (to : ℕ) → Place
 behindLeaf p x to = record { at = p .at; from = p .from + x .early + x .late; carried = x .late; to = to }
 
-module _ {s : Sheet} {us ps : List ℕ} {over : Interval} {n : ℕ} {p : Place} {score : List ℕ} (h : LeafEntry s us ps over n p score) where
+module _ {s : Sheet} {us ps : List ℕ} {over : Interval} {n : ℕ} {p : Place} {score : List ℕ} (h : LeafPre s us ps over n p score) where
   abbrev left : ℕ
   left = over .left .0
 

@@ -11,7 +11,7 @@ use Rattle.slices.specs.Pad.{pad, pad-nil, pad-more, pad-over, pad-whole}
 use Rattle.hextext.specs.Fields.{bigEndian, length-big-endian}
 use Rattle.score.specs.Score.{headLine, leafFront, leafLine}
 use Rattle.score.specs.ScoreLaws.{leaf-front-bytes}
-use Rattle.score.specs.Steps.{LineHeld}
+use Rattle.score.specs.Contracts.{LineHeld}
 
 -- ---- fields one behind the other
 

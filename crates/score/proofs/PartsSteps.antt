@@ -12,7 +12,7 @@ use Rattle.slices.specs.Over.{overFrom}
 use Rattle.slices.specs.Lookup.{drop-step}
 use Rattle.sheet.specs.Sheet.{division, Sheet}
 use Rattle.derivations.specs.Derivation.{Item, derive}
-use Rattle.trees.specs.ValidTrees.{row, placedFrom}
+use Rattle.trees.specs.ValidTrees.{adjoining, placedFrom}
 use Rattle.trees.specs.Instance.{instanceOf}
 use Rattle.trees.specs.Expansions.{may-divide, parts-whole}
 use Rattle.trees.specs.Onsets.{divided-long}
@@ -24,26 +24,26 @@ use Rattle.expansions.specs.Items.{interval, itemOf}
 use Rattle.score.specs.declared.tree.Place.{Place}
 use Rattle.score.specs.Score.{entryLines}
 use Rattle.expansions.specs.Tables.{RulesHeld}
-use Rattle.score.specs.Steps.{OnsetsHeld, carriedInto, textLeft, Ahead, WentOn, TreeEntry, TreeWritten}
+use Rattle.score.specs.Contracts.{OnsetsHeld, carriedInto, textLeft, Ahead, WentOn, TreePre, TreeWritten}
 use Rattle.score.proofs.TreeSteps.{behindRule, DivisionHere, front}
 
 -- intervals of `len` units in a row from `left` on are to be written, and then the items that follow
-pub record PartsEntry (s : Sheet) (rest : List Item) (ks cells us ps list : List ℕ) (left len : ℕ) (p : Place) (score : List ℕ) : Type 0
+pub record PartsPre (s : Sheet) (rest : List Item) (ks cells us ps list : List ℕ) (left len : ℕ) (p : Place) (score : List ℕ) : Type 0
   where
     pub rules : RulesHeld s cells
     pub onsets : OnsetsHeld s us ps
     pub in-bars : (j : ℕ) → j < length ks → InOneBar s (left + j * len) len
-    pub ahead : Ahead s list left (row left len ks ++ rest) p score
+    pub ahead : Ahead s list left (adjoining left len ks ++ rest) p score
 
 -- the items that are left after j intervals
 abbrev pub itemsFrom : (left len : ℕ) (ks : List ℕ) (rest : List Item) (j : ℕ) → List Item
-itemsFrom left len ks rest j = row (left + j * len) len (drop j ks) ++ rest
+itemsFrom left len ks rest j = adjoining (left + j * len) len (drop j ks) ++ rest
 
 -- j intervals are written
 pub record PartsUpto (s : Sheet) (rest : List Item) (ks list : List ℕ) (left len : ℕ) (p : Place) (score : List ℕ) (j : ℕ) (x : Place)
     (score′ : List ℕ) : Type 0 where
   pub ahead : Ahead s list (left + j * len) (itemsFrom left len ks rest j) x score′
-  pub went-on : WentOn s list (row left len ks ++ rest) p score (itemsFrom left len ks rest j) x score′
+  pub went-on : WentOn s list (adjoining left len ks ++ rest) p score (itemsFrom left len ks rest j) x score′
 
 went-on-twice : {s : Sheet} {list : List ℕ} {gs hs is : List Item} {p x y : Place} {a b c : List ℕ} → WentOn s list gs p a hs x b
     → WentOn s list hs x b is y c → WentOn s list gs p a is y c
@@ -60,7 +60,7 @@ pub one-left : (l left len j : ℕ) → l ≡ left + j * len → l + len ≡ lef
 one-left l left len j e = ap (_+ len) e ∙ next-left left len j
 
 module _ {s : Sheet} {rest : List Item} {ks cells us ps list : List ℕ} {left len : ℕ} {p : Place} {score : List ℕ}
-    (h : PartsEntry s rest ks cells us ps list left len p score) where
+    (h : PartsPre s rest ks cells us ps list left len p score) where
   abbrev Upto : ℕ → Place → List ℕ → Type 0
   Upto = PartsUpto s rest ks list left len p score
 
@@ -77,10 +77,10 @@ module _ {s : Sheet} {rest : List Item} {ks cells us ps list : List ℕ} {left l
 
     items-next : itemsFrom left len ks rest j ≡ itemOf (getD ks j 0) (interval l len) ∷ following
     items-next =
-        ap (λ y. row y len (drop j ks) ++ rest) (sym at) ∙ ap (λ qs. row l len qs ++ rest) (drop-step ks j k)
-        ∙ ap (λ y. itemOf (getD ks j 0) (interval l len) ∷ (row y len (drop (j + 1) ks) ++ rest)) (one-left l left len j at)
+        ap (λ y. adjoining y len (drop j ks) ++ rest) (sym at) ∙ ap (λ qs. adjoining l len qs ++ rest) (drop-step ks j k)
+        ∙ ap (λ y. itemOf (getD ks j 0) (interval l len) ∷ (adjoining y len (drop (j + 1) ks) ++ rest)) (one-left l left len j at)
 
-    pub part-entry : TreeEntry s (getD ks j 0) following cells us ps list (interval l len) x score′
+    pub part-entry : TreePre s (getD ks j 0) following cells us ps list (interval l len) x score′
     part-entry =
         record {
           rules = h .rules;
@@ -101,7 +101,7 @@ module _ {s : Sheet} {rest : List Item} {ks cells us ps list : List ℕ} {left l
 
   -- none is left
   pub parts-all : (j : ℕ) (x : Place) (score′ : List ℕ) → Upto j x score′ → j ≡ length ks
-      → Ahead s list (left + length ks * len) rest x score′ × WentOn s list (row left len ks ++ rest) p score rest x score′
+      → Ahead s list (left + length ks * len) rest x score′ × WentOn s list (adjoining left len ks ++ rest) p score rest x score′
   parts-all j x score′ u e =
       let v : Upto (length ks) x score′ = rw e at u in
       (rw (drop-length ks) at (v .ahead), rw (drop-length ks) at (v .went-on))
@@ -109,7 +109,7 @@ module _ {s : Sheet} {rest : List Item} {ks cells us ps list : List ℕ} {left l
 -- ---- the parts of a division
 
 module _ {s : Sheet} {q : ℕ} {rest : List Item} {cells us ps list : List ℕ} {over : Interval} {p : Place} {score ks : List ℕ} {k : ℕ}
-    (h : TreeEntry s q rest cells us ps list over p score) (size : length ks ≡ k)
+    (h : TreePre s q rest cells us ps list over p score) (size : length ks ≡ k)
     (d : DivisionHere s q rest list over p (getD list (p .at) 0) ks) where
   abbrev left′ : ℕ
   left′ = over .left .0
@@ -127,13 +127,13 @@ module _ {s : Sheet} {q : ℕ} {rest : List Item} {cells us ps list : List ℕ} 
   even : len′ % k ≡ 0
   even = rw size at (may-divide s (length ks) left′ len′ (d .allowed) .0)
 
-  text-division : textLeft s list (itemOf q over ∷ rest) p ≡ textLeft s list (row left′ (len′ / k) ks ++ rest) (behindRule p)
+  text-division : textLeft s list (itemOf q over ∷ rest) p ≡ textLeft s list (adjoining left′ (len′ / k) ks ++ rest) (behindRule p)
   text-division =
       rw (← size)
       (ap (λ xs. entryLines (placedFrom s (carriedInto s p) (leavesFrom s xs (itemOf q over ∷ rest)))) (front h)
       ∙ ap (λ ls. entryLines (placedFrom s (carriedInto s p) ls)) (leaves-divided s (itemOf q over) rest _ q (d .weight) ks _ (d .rule)))
 
-  pub parts-entry : PartsEntry s rest ks cells us ps list left′ (len′ / k) (behindRule p) score
+  pub parts-entry : PartsPre s rest ks cells us ps list left′ (len′ / k) (behindRule p) score
   parts-entry =
       record {
         rules = h .rules;
@@ -144,7 +144,7 @@ module _ {s : Sheet} {q : ℕ} {rest : List Item} {cells us ps list : List ℕ} 
           price = d .price;
           read =
               subst
-              (λ n. derive (instanceOf s) (drop (p .at + 1) list) (row left′ (len′ / n) ks ++ rest) (p .carried) ≡ some (d .price))
+              (λ n. derive (instanceOf s) (drop (p .at + 1) list) (adjoining left′ (len′ / n) ks ++ rest) (p .carried) ≡ some (d .price))
               size
               (d .read);
           room = omega (arith, h .ahead .room, ap length text-division);
@@ -159,7 +159,7 @@ module _ {s : Sheet} {q : ℕ} {rest : List Item} {cells us ps list : List ℕ} 
       whole = rw size (parts-whole k len′ even)
 
       go : Ahead s list (left′ + length ks * (len′ / k)) rest x score′
-          × WentOn s list (row left′ (len′ / k) ks ++ rest) (behindRule p) score rest x score′
+          × WentOn s list (adjoining left′ (len′ / k) ks ++ rest) (behindRule p) score rest x score′
           → TreeWritten s q rest list over p x score score′
       go (a, w) =
           record {

@@ -14,10 +14,10 @@ use Rattle.sheet.specs.Held.{playingTable}
 use Rattle.trees.specs.Leaves.{entriesOf}
 use Rattle.expansions.specs.Tables.{unitCells}
 use Rattle.score.specs.Score.{headLine, scoreText, entryLines, treeText}
-use Rattle.score.specs.Steps.{pitchCells, BarsEntry, BarsWritten, TextEntry, TextWritten}
+use Rattle.score.specs.Contracts.{pitchCells, BarsPre, BarsWritten, TextPre, TextWritten}
 
 module _ {s : Sheet} {cells : List ℕ} {pl : PlayingTable} {list : List ℕ} {R D total : ℕ} {score : List ℕ}
-    (h : TextEntry s cells pl list R D total score) where
+    (h : TextPre s cells pl list R D total score) where
   abbrev headText : List ℕ
   headText = lineText (headLine (s .playing .bars) total R D)
 
@@ -60,7 +60,7 @@ module _ {s : Sheet} {cells : List ℕ} {pl : PlayingTable} {list : List ℕ} {R
     head-end =
         let e = written .end ∙ ap (λ b. cond b (0 + length headText) 0) fits in omega (arith, e)
 
-    pub bars-given : (us : List ℕ) → us ≡ unitCells (s .playing) → BarsEntry s cells us (pl .pitches) list (pl .bars) to score₁
+    pub bars-given : (us : List ℕ) → us ≡ unitCells (s .playing) → BarsPre s cells us (pl .pitches) list (pl .bars) to score₁
     bars-given us e =
         record {
           rules = h .rules;

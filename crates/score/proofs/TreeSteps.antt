@@ -13,7 +13,7 @@ use Rattle.sheet.specs.declared.table.Rule as cell
 use Rattle.sheet.specs.declared.table.Rule.the-variants.{Division, Leaf}
 use Rattle.sheet.specs.Sheet.{Rule, division, leaf, Sheet}
 use Rattle.derivations.specs.Derivation.{Item, Expansion, Price, derive, Onto, derive-cons}
-use Rattle.trees.specs.ValidTrees.{ruleAt, row, mayDivide, late, placedFrom}
+use Rattle.trees.specs.ValidTrees.{ruleAt, adjoining, mayDivide, late, placedFrom}
 use Rattle.trees.specs.Instance.{lateCount, atLeaf, atDivision, instanceOf}
 use Rattle.trees.specs.Expansions.{Step, step-of}
 use Rattle.trees.specs.Leaves.{leavesFrom, leaves-leaf}
@@ -24,7 +24,7 @@ use Rattle.slices.specs.Lookup.{some-below, drop-step}
 use Rattle.expansions.specs.Items.{itemOf}
 use Rattle.score.specs.declared.tree.Place.{Place}
 use Rattle.score.specs.Score.{leafLines, entryLines}
-use Rattle.score.specs.Steps.{carriedInto, leafText, LeafEntry, LeafWritten, textLeft, TreeEntry, TreeWritten}
+use Rattle.score.specs.Contracts.{carriedInto, leafText, LeafPre, LeafWritten, textLeft, TreePre, TreeWritten}
 use Rattle.score.proofs.CountSteps.{cell-at}
 
 -- the place behind a rule
@@ -48,11 +48,11 @@ pub record DivisionHere (s : Sheet) (q : ℕ) (rest : List Item) (list : List �
     pub rule : ruleAt s r ≡ some (division q weight ks)
     pub allowed : mayDivide s (length ks) (over .left .0) (over .len .0) ≡ true
     pub price : Price
-    pub read : derive (instanceOf s) (drop (p .at + 1) list) (row (over .left .0) (over .len .0 / length ks) ks ++ rest) (p .carried)
+    pub read : derive (instanceOf s) (drop (p .at + 1) list) (adjoining (over .left .0) (over .len .0 / length ks) ks ++ rest) (p .carried)
         ≡ some price
 
 module _ {s : Sheet} {q : ℕ} {rest : List Item} {cells us ps list : List ℕ} {over : Interval} {p : Place} {score : List ℕ}
-    (h : TreeEntry s q rest cells us ps list over p score) where
+    (h : TreePre s q rest cells us ps list over p score) where
   abbrev left : ℕ
   left = over .left .0
 
@@ -163,7 +163,7 @@ module _ {s : Sheet} {q : ℕ} {rest : List Item} {cells us ps list : List ℕ} 
     room : p .to + (length (leafText s over n p) + length after) ≤ length score
     room = omega (arith, h .ahead .room, ap length text-leaf, length-append (leafText s over n p) after)
 
-    pub leaf-entry : LeafEntry s us ps over n (behindRule p) score
+    pub leaf-entry : LeafPre s us ps over n (behindRule p) score
     leaf-entry =
         record {
           onsets = h .onsets;

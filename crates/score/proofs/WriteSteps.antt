@@ -29,7 +29,7 @@ use Rattle.score.specs.Score.{treeText}
 use Rattle.score.specs.ScoreLaws.{textSize, score-length}
 use Rattle.score.specs.LeafRules.{leafRules, leaf-rules-most, leaf-rules-entries}
 use Rattle.score.specs.Writing.{noRoom, textWithin, writePriced, writeSheet, writeText, writtenOf, scoreAfter}
-use Rattle.score.specs.Steps.{TextEntry, TextWritten}
+use Rattle.score.specs.Contracts.{TextPre, TextWritten}
 
 -- what an entry promises: its result and the score slice are those of the outcome
 abbrev pub Promised : Outcome (List ℕ) → Written → (score score′ : List ℕ) → Type 0
@@ -129,9 +129,9 @@ module _ {s : Sheet} {g : GrammarTable} {p : PlayingTable} {list : List ℕ} {r 
       kept (writeSheet s list (length score)) 13 0
       (outcome (length score) ∙ ap (λ b. cond b (accepted text) (refused 13 0)) no-room) x score e
 
-  pub text-entry : (score : List ℕ) (size : ℕ) → size ≡ textSize leaves (p .count) → size ≤ length score
-      → TextEntry s cells p list (r .weight) (r .distance) (r .total) score
-  text-entry score size q k =
+  pub text-pre : (score : List ℕ) (size : ℕ) → size ≡ textSize leaves (p .count) → size ≤ length score
+      → TextPre s cells p list (r .weight) (r .distance) (r .total) score
+  text-pre score size q k =
       record { rules = held; good = h .good .onsets; playing = h .playing; valid = t .valid; room = omega (arith, k, q, size-is) }
 
   pub sheet-written : (score score′ : List ℕ) (size bytes : ℕ) → size ≡ textSize leaves (p .count) → size ≤ length score

@@ -3,5 +3,5 @@ pub mod ScoreLaws
 pub mod LeafRules
 pub mod Writing
 pub mod WritingLaws
-pub mod Steps
+pub mod Contracts
 pub mod Cases

@@ -10,7 +10,7 @@ ghost use Rattle.score.specs.LeafRules.{leafOne, leafRules};
 ghost use Rattle.sheet.specs.Outcome as outcome;
 ghost use Rattle.score.specs.Writing.{writeSheet, writtenOf, scoreAfter, Writes};
 ghost use Rattle.expansions.specs.Tables.{RulesHeld};
-ghost use Rattle.score.specs.Steps.{TextEntry, TextWritten, PricedEntry};
+ghost use Rattle.score.specs.Contracts.{TextPre, TextWritten, PricedPre};
 
 mod line;
 mod tree;
@@ -81,9 +81,9 @@ fn write_text<'a>(
     total: u64,
     score: &mut [u8],
 ) -> usize
-    requires { ⌜ ((s : Sheet) × TextEntry s (now rules) playing (now list) weight distance total (now score)) ⌝ }
+    requires { ⌜ ((s : Sheet) × TextPre s (now rules) playing (now list) weight distance total (now score)) ⌝ }
     ensures { λ r. ⌜ ((s : Sheet)
-        → TextEntry s (now (rules .entry)) playing (now (list .entry)) weight distance total (now (score .entry))
+        → TextPre s (now (rules .entry)) playing (now (list .entry)) weight distance total (now (score .entry))
         → TextWritten s (now (list .entry)) weight distance total r (now (score .entry)) (now (score .exit))) ⌝ }
 {
     let units = pack_units(playing);
@@ -120,8 +120,8 @@ pub fn write_priced(
     price: Priced,
     score: &mut [u8],
 ) -> Written
-    requires { ⌜ ((s : Sheet) × PricedEntry s grammar playing (now list) price) ⌝ }
-    ensures { λ r. ⌜ ((s : Sheet) → PricedEntry s grammar playing (now (list .entry)) price
+    requires { ⌜ ((s : Sheet) × PricedPre s grammar playing (now list) price) ⌝ }
+    ensures { λ r. ⌜ ((s : Sheet) → PricedPre s grammar playing (now (list .entry)) price
         → (r ≡ writtenOf (writeSheet s (now (list .entry)) (length (now (score .entry)))))
         × (now (score .exit) ≡ scoreAfter (writeSheet s (now (list .entry)) (length (now (score .entry)))) (now (score .entry)))) ⌝ }
 {

@@ -4,7 +4,7 @@ ghost use Prim.Native.Nat.{_+_, _≤_};
 ghost use lib.ListN.{length, take, drop, replicate};
 ghost use Rattle.slices.specs.Pad.{pad};
 ghost use Rattle.score.specs.Score.{headLine, leafFront, leafLine};
-ghost use Rattle.score.specs.Steps.{leafOver, LineHeld};
+ghost use Rattle.score.specs.Contracts.{leafOver, LineHeld};
 use expansions::Interval;
 use hextext::put_field;
 use sheet::Pitches;

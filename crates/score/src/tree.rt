@@ -4,7 +4,7 @@ ghost use mathlib.Core.List.{List};
 ghost use Prim.Native.Nat.{ℕ};
 ghost use Rattle.sheet.specs.Sheet.{Sheet};
 ghost use Rattle.derivations.specs.Derivation.{Item};
-ghost use Rattle.score.specs.Steps.{LeafEntry, LeafWritten, TreeEntry, TreeWritten, BarsEntry, BarsWritten};
+ghost use Rattle.score.specs.Contracts.{LeafPre, LeafWritten, TreePre, TreeWritten, BarsPre, BarsWritten};
 use crate::line::LEAF_LINE_MOST;
 use crate::line::leaf_line;
 use expansions::Interval;
@@ -35,8 +35,8 @@ fn write_leaf<'a>(
     p: Place,
     score: &mut [u8],
 ) -> Place
-    requires { ⌜ ((s : Sheet) × LeafEntry s (now units) (now pitches) over n p (now score)) ⌝ }
-    ensures { λ r. ⌜ ((s : Sheet) → LeafEntry s (now (units .entry)) (now (pitches .entry)) over n p (now (score .entry))
+    requires { ⌜ ((s : Sheet) × LeafPre s (now units) (now pitches) over n p (now score)) ⌝ }
+    ensures { λ r. ⌜ ((s : Sheet) → LeafPre s (now (units .entry)) (now (pitches .entry)) over n p (now (score .entry))
         → LeafWritten s over n p r (now (score .entry)) (now (score .exit))) ⌝ }
 {
     let placed = place(units, over, p.from);
@@ -71,9 +71,9 @@ fn write_tree<'a>(
     score: &mut [u8],
 ) -> Place
     requires { ⌜ ((s : Sheet) × (q : ℕ) × (rest : List Item)
-        × TreeEntry s q rest (now rules) (now units) (now pitches) (now list) over p (now score)) ⌝ }
+        × TreePre s q rest (now rules) (now units) (now pitches) (now list) over p (now score)) ⌝ }
     ensures { λ r. ⌜ ((s : Sheet) (q : ℕ) (rest : List Item)
-        → TreeEntry s q rest (now (rules .entry)) (now (units .entry)) (now (pitches .entry)) (now (list .entry)) over p
+        → TreePre s q rest (now (rules .entry)) (now (units .entry)) (now (pitches .entry)) (now (list .entry)) over p
         (now (score .entry))
         → TreeWritten s q rest (now (list .entry)) over p r (now (score .entry)) (now (score .exit))) ⌝ }
 {
@@ -125,9 +125,9 @@ pub fn write_bars<'a>(
     to: usize,
     score: &mut [u8],
 ) -> usize
-    requires { ⌜ ((s : Sheet) × BarsEntry s (now rules) (now units) (now pitches) (now list) bars to (now score)) ⌝ }
+    requires { ⌜ ((s : Sheet) × BarsPre s (now rules) (now units) (now pitches) (now list) bars to (now score)) ⌝ }
     ensures { λ r. ⌜ ((s : Sheet)
-        → BarsEntry s (now (rules .entry)) (now (units .entry)) (now (pitches .entry)) (now (list .entry)) bars to (now (score .entry))
+        → BarsPre s (now (rules .entry)) (now (units .entry)) (now (pitches .entry)) (now (list .entry)) bars to (now (score .entry))
         → BarsWritten s (now (list .entry)) to r (now (score .entry)) (now (score .exit))) ⌝ }
 {
     let n = bars as u32;

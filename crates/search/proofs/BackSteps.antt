@@ -1,5 +1,5 @@
--- The steps of `before` and `backward`: the vectors from the last bar to the first. Each cell of `before` is the least sum of a row and the
--- vector behind the bar (`before-cell`). `Backward` is the invariant of `backward`: it begins behind the last bar (`backward-none`) and
+-- The steps of `suffix_step` and `backward`: suffix costs from the last bar to the first. Each cell of `suffix_step` is the least sum of a row
+-- and the suffix costs behind the bar (`suffix-step-cell`). `Backward` is the invariant of `backward`: it begins behind the last bar (`backward-none`) and
 -- goes on by a bar (`backward-more`).
 use Prim.Native.Nat.{ℕ, _+_, _-_, _*_, _/_, _≤_, _<_}
 use mathlib.Core.Path.{_≡_, refl, sym, ap, subst, _∙_}
@@ -14,14 +14,14 @@ use Rattle.rows.specs.Vectors.{vec, Low, totalsOf}
 use Rattle.rows.specs.VectorLaws.{four, low-eq, lowest-same}
 use Rattle.rows.specs.Memo.{rowAt, stored}
 use Rattle.rows.specs.MemoLaws.{stored-size, stored-own, kept-row}
-use Rattle.search.specs.Search.{Suffix, VectorsFrom, BeforeEntry, BeforeAs, BackEntry}
-use Rattle.search.specs.BarLaws.{suffix-more, suffix-last}
+use Rattle.search.specs.Contracts.{Suffix, VectorsFrom, SuffixStepPre, SuffixStep, BackwardPre}
+use Rattle.search.proofs.BarLaws.{suffix-more, suffix-last}
 use Rattle.search.proofs.EnterSteps.{at-vec}
 use Rattle.search.proofs.PassSteps.{length-stored, root-cells-low, totals-low}
 
--- ---- `before`
+-- ---- `suffix_step`
 
-module _ {s : Sheet} {roots : List ℕ} {e b : ℕ} {v : List ℕ} (h : BeforeEntry s roots e b v) where
+module _ {s : Sheet} {roots : List ℕ} {e b : ℕ} {v : List ℕ} (h : SuffixStepPre s roots e b v) where
   module _ (c : ℕ) (hc : c < carries) (i : ℕ) (ei : i ≡ 4 * (4 * b + c)) {y t : List ℕ} (ey : y ≡ rowAt roots i) (et : t ≡ totalsOf y) where
     abbrev row : List ℕ
     row = rowAt roots (4 * (4 * b + c))
@@ -29,23 +29,23 @@ module _ {s : Sheet} {roots : List ℕ} {e b : ℕ} {v : List ℕ} (h : BeforeEn
     y-is : y ≡ row
     y-is = ey ∙ ap (rowAt roots) ei
 
-    pub before-asked : Low t × Low v
-    before-asked = (
+    pub suffix-step-asked : Low t × Low v
+    suffix-step-asked = (
       totals-low row (root-cells-low s b c row (h .roots-are .each b c (h .bar-in) hc)) (et ∙ ap totalsOf y-is),
       h .low,
     )
 
-    pub before-cell : {d : ℕ} → d ≡ lowest NONE (λ m. getD t m 0 + getD v m 0) 4
+    pub suffix-step-cell : {d : ℕ} → d ≡ lowest NONE (λ m. getD t m 0 + getD v m 0) 4
         → d ≡ lowest NONE (λ m. getD row m 0 / 64 + getD v m 0) carries
-    before-cell e =
+    suffix-step-cell e =
         e ∙ lowest-same NONE (λ m. getD t m 0 + getD v m 0) (λ m. getD row m 0 / 64 + getD v m 0) 4
         (λ m hm. ap (_+ getD v m 0) (at-vec (λ x. getD row x 0 / 64) (et ∙ ap totalsOf y-is) m hm))
 
   abbrev sums : ℕ → ℕ
   sums c = lowest NONE (λ m. getD (rowAt roots (4 * (4 * b + c))) m 0 / 64 + getD v m 0) carries
 
-  pub before-all : {w x y z : ℕ} → w ≡ sums 0 → x ≡ sums 1 → y ≡ sums 2 → z ≡ sums 3 → BeforeAs roots b v (w ∷ x ∷ y ∷ z ∷ [])
-  before-all ew ex ey ez =
+  pub suffix-step-all : {w x y z : ℕ} → w ≡ sums 0 → x ≡ sums 1 → y ≡ sums 2 → z ≡ sums 3 → SuffixStep roots b v (w ∷ x ∷ y ∷ z ∷ [])
+  suffix-step-all ew ex ey ez =
       let all = four ew ex ey ez in
       record {
         four = refl;
@@ -55,7 +55,7 @@ module _ {s : Sheet} {roots : List ℕ} {e b : ℕ} {v : List ℕ} (h : BeforeEn
 
 -- ---- `backward`
 
--- v is the vector before the bars from b on, and so are those of the table
+-- v is the suffix costs from bar b on, and so are those of the table
 pub record Backward (s : Sheet) (vectors : List ℕ) (e b : ℕ) (v : List ℕ) : Type 0 where
   pub vectors-are : VectorsFrom s vectors e b
   pub suffix : Suffix s e b v
@@ -76,9 +76,9 @@ stored-suffix {b = b} {v} vectors room p =
     let is = vec-of v (p .four) in
     stored-own vectors (4 * b) v 0 room (λ x. getD v x 0) is (omega (arith, p .low 0)) ∙ sym is
 
-module _ {s : Sheet} {roots vectors₀ : List ℕ} {from e : ℕ} (h : BackEntry s roots vectors₀ from e) where
+module _ {s : Sheet} {roots vectors₀ : List ℕ} {from e : ℕ} (h : BackwardPre s roots vectors₀ from e) where
   -- for another table that is as long
-  pub back-again : (vectors : List ℕ) → length vectors ≡ length vectors₀ → BackEntry s roots vectors from e
+  pub back-again : (vectors : List ℕ) → length vectors ≡ length vectors₀ → BackwardPre s roots vectors from e
   back-again vectors same = record {
     good = h .good;
     rising = h .rising;
@@ -122,7 +122,7 @@ module _ {s : Sheet} {roots vectors₀ : List ℕ} {from e : ℕ} (h : BackEntry
     below : b < e
     below = omega arith
 
-    pub backward-entry : BeforeEntry s roots e b v
+    pub backward-entry : SuffixStepPre s roots e b v
     backward-entry = record {
       roots-are = h .roots-are;
       bar-in = below;
@@ -134,7 +134,7 @@ module _ {s : Sheet} {roots vectors₀ : List ℕ} {from e : ℕ} (h : BackEntry
     pub backward-room : 4 * b + 4 ≤ length vectors
     backward-room = omega (arith, p .vectors-are .size, below)
 
-    pub backward-more : {after w : List ℕ} → BeforeAs roots b v w → after ≡ stored vectors (4 * b) w 0 → Backward s after e b w
+    pub backward-more : {after w : List ℕ} → SuffixStep roots b v w → after ≡ stored vectors (4 * b) w 0 → Backward s after e b w
     backward-more {after} {w} told ea =
         rw ea (record {
           vectors-are = record {

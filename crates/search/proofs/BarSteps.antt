@@ -1,5 +1,5 @@
--- The steps of `build_bars`: the tree from the first bar to the last. `InBars` is the loop's invariant: it begins where the settled bars
--- end (`in-bars-none`), goes on by a bar that is built (`in-bars-more`), and ends with all of them settled (`in-bars-all`).
+-- The steps of `build_bars`: the tree from the first bar to the last. `InBars` is the loop's invariant: it begins where the committed bars
+-- end (`in-bars-none`), goes on by a bar that is built (`in-bars-more`), and ends with all of them committed (`in-bars-all`).
 use Prim.Native.Nat.{ℕ, _+_, _*_, _≤_, _<_}
 use mathlib.Core.Path.{_≡_, sym, ap, subst, _∙_}
 use mathlib.Core.List.{List, [], _∷_}
@@ -13,7 +13,7 @@ use Rattle.sheet.specs.Held.{units}
 use Rattle.derivations.specs.Derivation.{Item}
 use Rattle.derivations.specs.Minima.{only}
 use Rattle.derivations.specs.First.{First}
-use Rattle.derivations.specs.Serving.{Serves, first-served, cell-below}
+use Rattle.derivations.specs.Interchange.{Interchangeable, first-interchanged, cell-below}
 use Rattle.trees.specs.Instance.{instanceOf}
 use Rattle.trees.specs.LeastTotal.{NONE, cellOf}
 use Rattle.trees.specs.Laws.{lawful}
@@ -25,13 +25,13 @@ use Rattle.rows.specs.Memo.{rowAt}
 use Rattle.rows.specs.PackedLaws.{packedCell}
 use Rattle.rows.specs.Slots.{itemAt, Sound}
 use Rattle.building.specs.declared.Built.{Built}
-use Rattle.building.specs.Rebuilding.{at, behind, BuiltAs, BuildEntry, Partway}
+use Rattle.building.specs.Contracts.{at, suffixCosts, BuiltAs, BuildPre, Partway}
 use Rattle.building.specs.RebuildLaws.{partway-next}
-use Rattle.search.specs.Search.{barItem, barsTo, barsFrom, behindBars, barOf, RootRow, OnPath, Suffix, BarsBuildEntry}
-use Rattle.search.specs.Search.{SettledAs}
-use Rattle.search.specs.BarLaws.{bar-next, path-shut, path-own, path-next, serves-bar}
-use Rattle.search.specs.BarLaws.{path-reached}
-use Rattle.search.specs.SettleLaws.{partway-settled, settled-built}
+use Rattle.search.specs.Contracts.{barItem, barsTo, barsFrom, barSuffixCosts, barOf, RootRow, OnPath, Suffix, BarsBuildPre}
+use Rattle.search.specs.Contracts.{CommittedAs}
+use Rattle.search.proofs.BarLaws.{bar-next, path-cut, path-own, path-next, interchangeable-bar}
+use Rattle.search.proofs.BarLaws.{path-reached}
+use Rattle.search.proofs.CommitLaws.{partway-committed, committed-built}
 use Rattle.search.proofs.EnterSteps.{bar-item, bar-stands}
 
 -- b bars are built, and some least list passes the carry state behind them
@@ -41,15 +41,15 @@ pub record InBars (s : Sheet) (rows tree now : List ℕ) (e b carry next : ℕ) 
   pub sound : Sound s rows
 
 module _ {s : Sheet} {plan us rows tree vectors roots : List ℕ} {start from e n : ℕ}
-    (h : BarsBuildEntry s plan us rows tree vectors roots start from e n) where
+    (h : BarsBuildPre s plan us rows tree vectors roots start from e n) where
   abbrev good : GoodRules (s .grammar)
-  good = h .ripe .entry .prepared .good
+  good = h .committable .entry .prepared .good
 
   pub in-bars-none : InBars s rows tree tree e from 0 n
   in-bars-none = record {
-    partway = partway-settled s good e (h .ripe .reached) from (h .ripe .rising) (h .ripe .shut) (h .ripe .settled) (h .ripe .end-in);
-    on-path = path-shut s e good (h .ripe .reached) from (h .ripe .rising) (h .ripe .shut);
-    sound = h .ripe .entry .sound;
+    partway = partway-committed s good e (h .committable .reached) from (h .committable .rising) (h .committable .cut) (h .committable .committed) (h .committable .end-in);
+    on-path = path-cut s e good (h .committable .reached) from (h .committable .rising) (h .committable .cut);
+    sound = h .committable .entry .sound;
   }
 
   module _ {now rows′ : List ℕ} {b carry next : ℕ} (p : InBars s rows′ tree now e b carry next) (lo : from ≤ b) (hb : b < e) where
@@ -60,10 +60,10 @@ module _ {s : Sheet} {plan us rows tree vectors roots : List ℕ} {start from e 
     bar-carry = p .partway .few
 
     below : b < s .playing .bars
-    below = omega (arith, h .ripe .end-in)
+    below = omega (arith, h .committable .end-in)
 
     pub root-room : 16 * b + 4 * carry + 4 ≤ length roots
-    root-room = omega (arith, h .ripe .roots-are .size, below, bar-carry)
+    root-room = omega (arith, h .committable .roots-are .size, below, bar-carry)
 
     pub vector-room : 4 * (b + 1) + 4 ≤ length vectors
     vector-room = omega (arith, h .vectors-are .size)
@@ -76,7 +76,7 @@ module _ {s : Sheet} {plan us rows tree vectors roots : List ℕ} {start from e 
     -- the bar's row is its own, since no least list passes an idle carry state
     row-own : (y : List ℕ) → RootRow s b carry y → y ≡ vec (packedCell s g carry)
     row-own y (inl z) = z
-    row-own y (inr (idle, _)) = absurd (path-own s e good (h .ripe .reached) b hb carry bar-carry (p .on-path) idle)
+    row-own y (inr (idle, _)) = absurd (path-own s e good (h .committable .reached) b hb carry bar-carry (p .on-path) idle)
 
     module _ {y x : List ℕ} (ey : y ≡ rowAt roots (16 * b + 4 * carry)) (ex : x ≡ rowAt vectors (4 * (b + 1))) where
       suffix : Suffix s e (b + 1) x
@@ -85,25 +85,25 @@ module _ {s : Sheet} {plan us rows tree vectors roots : List ℕ} {start from e 
       row-is : y ≡ vec (packedCell s g carry)
       row-is =
           let same : 16 * b + 4 * carry ≡ 4 * (4 * b + carry) = omega arith in
-          row-own y (subst (RootRow s b carry) (sym (ey ∙ ap (rowAt roots) same)) (h .ripe .roots-are .each b carry hb bar-carry))
+          row-own y (subst (RootRow s b carry) (sym (ey ∙ ap (rowAt roots) same)) (h .committable .roots-are .each b carry hb bar-carry))
 
-      reached : behind s (g ∷ []) (at x) carry < NONE
+      reached : suffixCosts s (g ∷ []) (at x) carry < NONE
       reached =
-          omega (arith, path-reached s e good (h .ripe .reached) b hb suffix carry bar-carry (p .on-path), p .on-path, h .ripe .reached)
+          omega (arith, path-reached s e good (h .committable .reached) b hb suffix carry bar-carry (p .on-path), p .on-path, h .committable .reached)
 
       pub bar-build : {bar : Bar} → bar ≡ barOf s b
-          → BuildEntry s plan us rows′ now bar start 0 (units (20160 * b)) (bar .first) carry y x next
+          → BuildPre s plan us rows′ now bar start 0 (units (20160 * b)) (bar .first) carry y x next
       bar-build eb =
-          let same = bar-item s (h .ripe .entry .start-is) b in
+          let same = bar-item s (h .committable .entry .start-is) b in
           record {
             entry = record {
-              stands = bar-stands s (h .ripe .entry .start-is) b (h .ripe .entry .prepared) (h .ripe .entry .onsets) below eb;
+              stands = bar-stands s (h .committable .entry .start-is) b (h .committable .entry .prepared) (h .committable .entry .onsets) below eb;
               few = bar-carry;
               sound = p .sound;
             };
             row-is = row-is ∙ ap (λ (i : Item). vec (packedCell s i carry)) (sym same);
             low = suffix .low;
-            reached = subst (λ (i : Item). behind s (i ∷ []) (at x) carry < NONE) (sym same) reached;
+            reached = subst (λ (i : Item). suffixCosts s (i ∷ []) (at x) carry < NONE) (sym same) reached;
             fits = subst (λ (i : Item). next + room s i ≤ length now) (sym same)
                 (omega (arith, on .fits, ap length (on .written), length-over-from 0 (on .bytes) tree));
           }
@@ -111,29 +111,29 @@ module _ {s : Sheet} {plan us rows tree vectors roots : List ℕ} {start from e 
       abbrev a : ℕ
       a = s .grammar .multiplier
 
-      serves : Serves (instanceOf s) a (g ∷ []) (behindBars s e (b + 1)) (at x) carry (behindBars s e b carry)
-      serves = serves-bar s e good (h .ripe .reached) b hb suffix carry bar-carry (p .on-path)
+      alike : Interchangeable (instanceOf s) a (g ∷ []) (barSuffixCosts s e (b + 1)) (at x) carry (barSuffixCosts s e b carry)
+      alike = interchangeable-bar s e good (h .committable .reached) b hb suffix carry bar-carry (p .on-path)
 
       pub in-bars-more : {rows″ then : List ℕ} {built : Built}
           → BuiltAs s rows″ now then (itemAt s start 0 (units (20160 * b)) ∷ []) (at x) carry next built
           → InBars s rows″ tree then e (b + 1) (built .carry) (built .to)
       in-bars-more {rows″} {then} {built} told = record {
         partway = partway-next s good rows″ tree now then (barsTo s e) g (barsFrom s e (b + 1)) (only NONE 0) 0 0 carry next x
-            (behindBars s e b carry) built on serves made;
-        on-path = rw (made .carry-is) (path-next s e good (h .ripe .reached) b hb carry (made .price .carry) bar-carry (p .on-path) onward);
+            (barSuffixCosts s e b carry) built on alike made;
+        on-path = rw (made .carry-is) (path-next s e good (h .committable .reached) b hb carry (made .price .carry) bar-carry (p .on-path) onward);
         sound = made .sound;
       }
         where
           made : BuiltAs s rows″ now then (g ∷ []) (at x) carry next built
           made =
-              subst (λ (i : Item). BuiltAs s rows″ now then (i ∷ []) (at x) carry next built) (bar-item s (h .ripe .entry .start-is) b) told
+              subst (λ (i : Item). BuiltAs s rows″ now then (i ∷ []) (at x) carry next built) (bar-item s (h .committable .entry .start-is) b) told
 
-          first : First (instanceOf s) a (g ∷ []) (behindBars s e (b + 1)) carry (made .bytes) (made .price)
-          first = first-served serves (made .first)
+          first : First (instanceOf s) a (g ∷ []) (barSuffixCosts s e (b + 1)) carry (made .bytes) (made .price)
+          first = first-interchanged alike (made .first)
 
-          onward : cellOf s g carry (made .price .carry) + behindBars s e (b + 1) (made .price .carry) ≤ behindBars s e b carry
+          onward : cellOf s g carry (made .price .carry) + barSuffixCosts s e (b + 1) (made .price .carry) ≤ barSuffixCosts s e b carry
           onward =
-              let (xs, q, reads, z) = serves .reached in
+              let (xs, q, reads, z) = alike .reached in
               omega (
                 arith,
                 first .least xs q reads,
@@ -142,10 +142,10 @@ module _ {s : Sheet} {plan us rows tree vectors roots : List ℕ} {start from e 
               )
 
   pub in-bars-all : {now rows′ : List ℕ} {b carry next : ℕ} → InBars s rows′ tree now e b carry next → b ≡ e
-      → SettledAs s rows′ now e next
+      → CommittedAs s rows′ now e next
   in-bars-all {now} {rows′} {b} {carry} {next} p eb = record {
-    settled = settled-built s good e (h .ripe .reached) (p .sound)
+    committed = committed-built s good e (h .committable .reached) (p .sound)
         (subst (λ (i : ℕ). Partway s tree now (barsTo s e) (barsFrom s e i) (only NONE 0) 0 0 carry next) eb (p .partway))
-        (h .ripe .settled .room);
+        (h .committable .committed .room);
     sound = p .sound;
   }

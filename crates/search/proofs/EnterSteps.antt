@@ -26,8 +26,8 @@ use Rattle.rows.specs.PackedLaws.{packedCell}
 use Rattle.rows.specs.Slots.{slots, itemAt, Stands, Sound}
 use Rattle.rows.specs.Rows.{Entry, Row}
 use Rattle.rows.specs.IdleLaws.{Idle}
-use Rattle.search.specs.Search.{barItem, beforeBars, barOf, EnterEntry, BarsEntry, PassEntry, Rooted}
-use Rattle.search.specs.BarLaws.{before-low}
+use Rattle.search.specs.Contracts.{barItem, prefixCosts, barOf, EnterPre, BarsPre, PassPre, Rooted}
+use Rattle.search.proofs.BarLaws.{prefix-low}
 
 -- ---- the number of slots
 
@@ -43,7 +43,7 @@ slots-few s rules onsets =
 
 -- ---- `enter`
 
-module _ {s : Sheet} {us : List ℕ} {b n : ℕ} (h : EnterEntry s us b n) where
+module _ {s : Sheet} {us : List ℕ} {b n : ℕ} (h : EnterPre s us b n) where
   pub enter-few : b < 64
   enter-few = omega (arith, h .bar-in, h .onsets .good .sixty-four)
 
@@ -72,11 +72,11 @@ module _ {s : Sheet} {us : List ℕ} {b n : ℕ} (h : EnterEntry s us b n) where
       same : 20160 * b ≡ b * barUnits
       same = omega arith
 
-module _ {s : Sheet} {plan us rows : List ℕ} {start count : ℕ} (e : BarsEntry s plan us rows start count) where
+module _ {s : Sheet} {plan us rows : List ℕ} {start count : ℕ} (e : BarsPre s plan us rows start count) where
   pub few-bars : count ≤ 64
   few-bars = omega (arith, e .count-is, e .onsets .good .sixty-four)
 
-  pub bar-enter : (b : ℕ) → b < count → EnterEntry s us b (length rows / 4)
+  pub bar-enter : (b : ℕ) → b < count → EnterPre s us b (length rows / 4)
   bar-enter b hb =
       record {
         onsets = e .onsets;
@@ -130,7 +130,7 @@ pub idle-same : (s : Sheet) (f g : ℕ → ℕ) (c : ℕ) → f 0 ≡ g 0 → f 
 idle-same s f g c z e (inl h) = inl (omega arith)
 idle-same s f g c z e (inr (k, h)) = inr (k, omega arith)
 
-module _ {s : Sheet} {plan us rows : List ℕ} {bar : Bar} {start : ℕ} {v : List ℕ} (h : PassEntry s plan us rows bar start v) where
+module _ {s : Sheet} {plan us rows : List ℕ} {bar : Bar} {start : ℕ} {v : List ℕ} (h : PassPre s plan us rows bar start v) where
   abbrev b : ℕ
   b = bar .number
 
@@ -138,10 +138,10 @@ module _ {s : Sheet} {plan us rows : List ℕ} {bar : Bar} {start : ℕ} {v : Li
   pass-few = omega (arith, h .bar-in, h .onsets .good .sixty-four)
 
   pub pass-low : Low v
-  pass-low = low-eq v (beforeBars s b) (h .before) (before-low s b)
+  pass-low = low-eq v (prefixCosts s b) (h .before) (prefix-low s b)
 
   -- once more, with what the table has become
-  pub pass-again : {now : List ℕ} → Sound s now → PassEntry s plan us now bar start v
+  pub pass-again : {now : List ℕ} → Sound s now → PassPre s plan us now bar start v
   pass-again sound = record {
     prepared = h .prepared;
     onsets = h .onsets;
@@ -156,8 +156,8 @@ module _ {s : Sheet} {plan us rows : List ℕ} {bar : Bar} {start : ℕ} {v : Li
     pub pass-idle : {now : List ℕ} → Sound s now → Idle s (λ i. getD v i 0) c → Rooted s now b c (vec (λ _. 64 * NONE))
     pass-idle sound idle = record {
       is = inr (
-        idle-same s (λ i. getD v i 0) (beforeBars s b) c (at-vec (beforeBars s b) (h .before) 0 (omega arith))
-            (at-vec (beforeBars s b) (h .before) c few) idle,
+        idle-same s (λ i. getD v i 0) (prefixCosts s b) c (at-vec (prefixCosts s b) (h .before) 0 (omega arith))
+            (at-vec (prefixCosts s b) (h .before) c few) idle,
         refl,
       );
       sound = sound;

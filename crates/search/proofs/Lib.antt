@@ -2,5 +2,7 @@ mod EnterSteps
 mod PassSteps
 mod BackSteps
 mod BarSteps
-mod SettleSteps
+mod CommitSteps
 mod SearchSteps
+mod BarLaws
+mod CommitLaws

@@ -22,8 +22,8 @@ use Rattle.rows.specs.Slots.{Sound}
 use Rattle.rows.specs.Rows.{Taken}
 use Rattle.rows.specs.IdleLaws.{taken-skip}
 use Rattle.rows.specs.TurnLaws.{taken-none, taken-more}
-use Rattle.search.specs.Search.{barItem, beforeBars, barOf, BarsEntry, PassEntry, RootRow, Rooted, RootsTo, PassedBar}
-use Rattle.search.specs.BarLaws.{before-none, before-more}
+use Rattle.search.specs.Contracts.{barItem, prefixCosts, barOf, BarsPre, PassPre, RootRow, Rooted, RootsTo, PassedBar}
+use Rattle.search.proofs.BarLaws.{prefix-none, prefix-more}
 use Rattle.search.proofs.EnterSteps.{at-vec, idle-same}
 
 -- a store keeps the number of cells
@@ -53,7 +53,7 @@ module _ {s : Sheet} {rows roots : List ℕ} {b : ℕ} {v : List ℕ} where
   passing-none are sound = record { roots-are = are; taken = taken-none (barItem s b) v sound }
 
   -- all carry states
-  pub passing-all : {c : ℕ} {o : List ℕ} → c ≡ 4 → v ≡ vec (beforeBars s b) → Passing s rows roots b v c o → PassedBar s rows roots b o
+  pub passing-all : {c : ℕ} {o : List ℕ} → c ≡ 4 → v ≡ vec (prefixCosts s b) → Passing s rows roots b v c o → PassedBar s rows roots b o
   passing-all {c} {o} ec ev passing = record { roots-are = all; is = p .taken .is ∙ vec-same _ _ each; sound = p .taken .sound }
     where
       p : Passing s rows roots b v 4 o
@@ -68,11 +68,11 @@ module _ {s : Sheet} {rows roots : List ℕ} {b : ℕ} {v : List ℕ} where
             | no e ↦ p .roots-are .each i m (omega arith) hm
           ]
 
-      each : (x : ℕ) → x < 4 → lowest NONE (λ c. getD v c 0 + cellOf s (barItem s b) c x) 4 ≡ beforeBars s (b + 1) x
+      each : (x : ℕ) → x < 4 → lowest NONE (λ c. getD v c 0 + cellOf s (barItem s b) c x) 4 ≡ prefixCosts s (b + 1) x
       each x hx =
-          lowest-same NONE (λ c. getD v c 0 + cellOf s (barItem s b) c x) (λ c. beforeBars s b c + cellOf s (barItem s b) c x) 4
-          (λ c hc. ap (_+ cellOf s (barItem s b) c x) (at-vec (beforeBars s b) ev c hc))
-          ∙ sym (before-more s b x)
+          lowest-same NONE (λ c. getD v c 0 + cellOf s (barItem s b) c x) (λ c. prefixCosts s b c + cellOf s (barItem s b) c x) 4
+          (λ c hc. ap (_+ cellOf s (barItem s b) c x) (at-vec (prefixCosts s b) ev c hc))
+          ∙ sym (prefix-more s b x)
 
   module _ {c : ℕ} {o : List ℕ} (p : Passing s rows roots b v c o) (few : c < 4) (hb : b < s .playing .bars) where
     pub passing-room : 4 * (4 * b + c) + 4 ≤ length roots
@@ -109,14 +109,14 @@ module _ {s : Sheet} {rows roots : List ℕ} {b : ℕ} {v : List ℕ} where
             | no e ↦ subst (RootRow s b m) (sym (kept b m (λ k. e (omega arith)))) (p .roots-are .last m (omega arith))
           ]
 
-      module _ (good : GoodRules (s .grammar)) (ev : v ≡ vec (beforeBars s b)) {t o′ : List ℕ} (et : t ≡ totalsOf y)
+      module _ (good : GoodRules (s .grammar)) (ev : v ≡ vec (prefixCosts s b)) {t o′ : List ℕ} (et : t ≡ totalsOf y)
           (eo : o′ ≡ lowered o (getD v c 0) t) where
         more-taken : RootRow s b c y → Taken s rows′ (barItem s b) v (c + 1) o′
         more-taken (inl e) = taken-more (p .taken) good few (record { is = e; sound = rooted .sound }) et eo
         more-taken (inr (idle, e)) =
             taken-skip s good (barItem s b) few (record { is = kept; sound = rooted .sound })
-            (idle-same s (beforeBars s b) (λ i. getD v i 0) c (sym (at-vec (beforeBars s b) ev 0 (omega arith)))
-            (sym (at-vec (beforeBars s b) ev c few)) idle)
+            (idle-same s (prefixCosts s b) (λ i. getD v i 0) c (sym (at-vec (prefixCosts s b) ev 0 (omega arith)))
+            (sym (at-vec (prefixCosts s b) ev c few)) idle)
           where
             upTo : ℕ → ℕ
             upTo x = lowest NONE (λ i. getD v i 0 + cellOf s (barItem s b) i x) c
@@ -138,13 +138,13 @@ module _ {s : Sheet} {rows roots : List ℕ} {b : ℕ} {v : List ℕ} where
 
 -- ---- `forward`
 
--- the rows of all bars before bar b are stored, and v is the vector before it
+-- the rows of all bars before bar b are stored, and v is the prefix costs there
 pub record Forwarded (s : Sheet) (rows roots : List ℕ) (b : ℕ) (v : List ℕ) : Type 0 where
   pub roots-are : RootsTo s roots b 0
-  pub is : v ≡ vec (beforeBars s b)
+  pub is : v ≡ vec (prefixCosts s b)
   pub sound : Sound s rows
 
-module _ {s : Sheet} {plan us rows : List ℕ} {start count : ℕ} (e : BarsEntry s plan us rows start count) where
+module _ {s : Sheet} {plan us rows : List ℕ} {start count : ℕ} (e : BarsPre s plan us rows start count) where
   pub forward-none : {roots v : List ℕ} → 16 * count ≤ length roots → v ≡ vec (only NONE 0) → Forwarded s rows roots 0 v
   forward-none size ev = record {
     roots-are = record {
@@ -152,15 +152,15 @@ module _ {s : Sheet} {plan us rows : List ℕ} {start count : ℕ} (e : BarsEntr
       each = λ i m hi hm. let none : ⊥ = omega arith in absurd none;
       last = λ m hm. let none : ⊥ = omega arith in absurd none;
     };
-    is = ev ∙ vec-same (only NONE 0) (beforeBars s 0) (λ x _. sym (before-none s x));
+    is = ev ∙ vec-same (only NONE 0) (prefixCosts s 0) (λ x _. sym (prefix-none s x));
     sound = e .sound;
   }
 
   module _ {now roots : List ℕ} {b : ℕ} {v : List ℕ} (p : Forwarded s now roots b v) where
     pub forward-pass : {bar : Bar} → b < count → bar ≡ barOf s b
-        → PassEntry s plan us now bar start v × RootsTo s roots (bar .number) 0
+        → PassPre s plan us now bar start v × RootsTo s roots (bar .number) 0
     forward-pass {bar} hb eb =
-        subst (λ (x : Bar). PassEntry s plan us now x start v × RootsTo s roots (x .number) 0) (sym eb) (
+        subst (λ (x : Bar). PassPre s plan us now x start v × RootsTo s roots (x .number) 0) (sym eb) (
           record {
             prepared = e .prepared;
             onsets = e .onsets;

@@ -11,7 +11,7 @@ use lib.ListN.{length, take, drop, replicate, length-append, length-drop}
 use lib.Seq.{drop-append-add, drop-drop, length-take-le}
 use Rattle.slices.specs.Every.{Every}
 use Rattle.slices.specs.Over.{over}
-use Rattle.slices.specs.Table.{Table, table-over}
+use Rattle.slices.specs.Filled.{Filled, filled-over}
 use Rattle.sheet.specs.declared.table.GrammarTable.{GrammarTable}
 use Rattle.sheet.specs.declared.table.PlayingTable.{PlayingTable}
 use Rattle.sheet.specs.Sheet.{Onset, Grammar, Playing, Sheet, barUnits, inBar}
@@ -33,11 +33,11 @@ use Rattle.rows.specs.OnsetLaws.{largest-le}
 use Rattle.filling.specs.Order.{ByArity}
 use Rattle.search.specs.declared.Found.{Found}
 use Rattle.search.specs.declared.Found.the-variants.{Tree}
-use Rattle.search.specs.Search.{barsTo, ForwardEntry, Settled, FoundIn, ParseEntry, FoundAs}
-use Rattle.search.specs.Search.{rowCells, RowCellsEntry, SearchEntry, Searched}
+use Rattle.search.specs.Contracts.{barsTo, ForwardPre, Committed, FoundIn, ParsePre, FoundAs}
+use Rattle.search.specs.Contracts.{rowCells, RowCellsPre, SearchPre, Searched}
 use Rattle.search.proofs.EnterSteps.{product-few, slots-few}
 
-module _ {s : Sheet} {plan us rows tree : List ℕ} {start count : ℕ} (h : ParseEntry s plan us rows tree start count) where
+module _ {s : Sheet} {plan us rows tree : List ℕ} {start count : ℕ} (h : ParsePre s plan us rows tree start count) where
   pub bars-few : count ≤ 64
   bars-few = omega (arith, h .count-is, h .onsets .good .sixty-four)
 
@@ -47,9 +47,9 @@ module _ {s : Sheet} {plan us rows tree : List ℕ} {start count : ℕ} (h : Par
   tree-most = omega (arith, h .onsets .good .sixty-four, h .onsets .good .most)
 
   -- a table of zeros claims nothing
-  pub parse-forward : {now order bytes roots vectors : List ℕ} {n : ℕ} → n ≡ length rows → Table (λ _. 0) rows now n → ByArity s order
+  pub parse-forward : {now order bytes roots vectors : List ℕ} {n : ℕ} → n ≡ length rows → Filled (λ _. 0) rows now n → ByArity s order
       → length roots ≡ 1024 → length vectors ≡ 260 → length bytes ≡ treeMost
-      → ForwardEntry s plan us order now bytes roots vectors start count
+      → ForwardPre s plan us order now bytes roots vectors start count
   parse-forward {now} en t ordered er ev eb = record {
     entry = record {
       prepared = h .prepared;
@@ -67,35 +67,35 @@ module _ {s : Sheet} {plan us rows tree : List ℕ} {start count : ℕ} (h : Par
 
   -- the bytes of a tree that is found fit both slices
   module _ {bytes : List ℕ} {n total : ℕ} (f : FoundIn s bytes (Tree n total)) where
-    settled : Settled s bytes (s .playing .bars) n
-    settled = f .0
+    committed : Committed s bytes (s .playing .bars) n
+    committed = f .0
 
     pub found-most : n ≤ treeBytes s
     unfolding bars treeBytes
     found-most =
         omega (
           arith,
-          settled .count-is,
-          nodes-bound (instanceOf s) (room s) (room-pays s (h .prepared .good)) (settled .bytes) (barsTo s (s .playing .bars)) 0
-              (settled .price)
-              (settled .first .reads),
+          committed .count-is,
+          nodes-bound (instanceOf s) (room s) (room-pays s (h .prepared .good)) (committed .bytes) (barsTo s (s .playing .bars)) 0
+              (committed .price)
+              (committed .first .reads),
           bars-room s,
         )
 
     pub found-fits : (n ≤ length bytes) × (n ≤ length tree)
-    found-fits = (omega (arith, found-most, settled .room), omega (arith, found-most, h .tree-size))
+    found-fits = (omega (arith, found-most, committed .room), omega (arith, found-most, h .tree-size))
 
     -- they are copied
     pub found-copied : {after : List ℕ} → after ≡ over (take n bytes) tree → FoundAs s tree after (Tree n total)
     unfolding leastTotal bars
     found-copied {after} e = (
-      settled .bytes,
-      settled .price .weight,
-      settled .price .distance,
-      first-is-tree s (h .prepared .good) (f .2) (settled .bytes) (settled .price) (settled .first),
-      settled .count-is,
-      e ∙ ap (λ (xs : List ℕ). over xs tree) (ap (λ (k : ℕ). take k bytes) (settled .count-is) ∙ settled .front),
-      f .1 ∙ sym (first-total-is s (h .prepared .good) (f .2) (settled .bytes) (settled .price) (settled .first)),
+      committed .bytes,
+      committed .price .weight,
+      committed .price .distance,
+      first-is-tree s (h .prepared .good) (f .2) (committed .bytes) (committed .price) (committed .first),
+      committed .count-is,
+      e ∙ ap (λ (xs : List ℕ). over xs tree) (ap (λ (k : ℕ). take k bytes) (committed .count-is) ∙ committed .front),
+      f .1 ∙ sym (first-total-is s (h .prepared .good) (f .2) (committed .bytes) (committed .price) (committed .first)),
     )
 
 -- ---- a sheet
@@ -127,7 +127,7 @@ some-slots s rules onsets some =
 
 -- ---- the cells of the rows
 
-module _ {s : Sheet} {plan : List ℕ} {most : ℕ} (h : RowCellsEntry s plan most) (q l : ℕ) (eq : q ≡ nonterminalsCell plan)
+module _ {s : Sheet} {plan : List ℕ} {most : ℕ} (h : RowCellsPre s plan most) (q l : ℕ) (eq : q ≡ nonterminalsCell plan)
     (el : l ≡ lengthsCell plan) where
   -- the numbers of nonterminals, of lengths and of onsets in the fullest bar have small products
   pub product-small : (q * l ≤ 1344) × (q * l * most ≤ 43008)
@@ -140,7 +140,7 @@ module _ {s : Sheet} {plan : List ℕ} {most : ℕ} (h : RowCellsEntry s plan mo
   product-is = rw (eq ∙ h .prepared .nonterminals, el ∙ h .prepared .lengths-are, h .most-is) (omega arith)
 
 module _ {s : Sheet} {grammar : GrammarTable} {playing : PlayingTable} {tree work : List ℕ}
-    (h : SearchEntry s grammar playing tree work) where
+    (h : SearchPre s grammar playing tree work) where
   pub rules-held : (g : Grammar) × GoodRules g × (grammar ≡ grammarTable g)
   rules-held = (s .grammar, h .held .good .rules, h .held .grammar)
 
@@ -171,7 +171,7 @@ module _ {s : Sheet} {grammar : GrammarTable} {playing : PlayingTable} {tree wor
   start-is = ap (λ (g : GrammarTable). g .start) (h .held .grammar)
 
   pub parse-entry : (plan us : List ℕ) (cells start count : ℕ) → Prepared s plan → us ≡ unitCells (s .playing) → cells ≡ rowCells s
-      → cells ≤ length work → start ≡ grammar .start → count ≡ playing .bars → ParseEntry s plan us (take cells work) tree start count
+      → cells ≤ length work → start ≡ grammar .start → count ≡ playing .bars → ParsePre s plan us (take cells work) tree start count
   parse-entry plan us cells start count ep eu ec fit es eb =
       record {
         prepared = ep;
@@ -191,7 +191,7 @@ module _ {s : Sheet} {grammar : GrammarTable} {playing : PlayingTable} {tree wor
 
   -- the rows come back, and then all required cells are cleared
   pub searched : (after zs then : List ℕ) (cells n : ℕ) (r : Found) → FoundAs s tree after r → cells ≤ length work
-      → length zs ≡ length (take cells work) → cells ≤ n → n ≡ workCells s → Table (λ _. 0) (zs ++ drop cells work) then n
+      → length zs ≡ length (take cells work) → cells ≤ n → n ≡ workCells s → Filled (λ _. 0) (zs ++ drop cells work) then n
       → Searched s tree after work then r
   searched after zs then cells n r found fit size more en t =
       record { found = found; clear = subst (λ (k : ℕ). then ≡ over (replicate k 0) work) en cleared }
@@ -209,5 +209,5 @@ module _ {s : Sheet} {grammar : GrammarTable} {playing : PlayingTable} {tree wor
 
       cleared : then ≡ over (replicate n 0) work
       cleared =
-          table-over 0 (zs ++ drop cells work) then work n t (omega (arith, en, h .work-size))
+          filled-over 0 (zs ++ drop cells work) then work n t (omega (arith, en, h .work-size))
           (lent-length zs cells size fit) rest

@@ -1,3 +1,1 @@
-pub mod Search
-pub mod BarLaws
-pub mod SettleLaws
+pub mod Contracts

@@ -1,19 +1,19 @@
-// The search for a least tree of a sheet, bar after bar: the rows of bars up to a bar line that nothing is carried over, then the vectors
+// The search for a least tree of a sheet, bar after bar: the rows of bars up to a bar line that nothing is carried over, then the suffix costs
 // behind them from the last of these bars to the first, and then their trees from the first to the last.
 ghost use mathlib.Core.Path.{_≡_};
 ghost use mathlib.Core.Bool.{true};
 ghost use Prim.Native.Nat.{ℕ, _<_, _≤_};
 ghost use lib.ListN.{length, take};
 ghost use Rattle.slices.specs.Over.{over};
-ghost use Rattle.slices.specs.Table.{Table};
+ghost use Rattle.slices.specs.Filled.{Filled};
 ghost use Rattle.sheet.specs.Sheet.{Sheet};
 ghost use Rattle.trees.specs.LeastTotal.{carries};
 ghost use Rattle.plan.specs.Plan.{Prepared};
 ghost use Rattle.rows.specs.Vectors.{Low};
-ghost use Rattle.search.specs.Search.{barOf, EnterEntry, PassEntry, Rooted, RootsTo, PassedBar, Closed};
-ghost use Rattle.search.specs.Search.{BeforeEntry, BeforeAs, BackEntry, VectorsFrom, BarsBuildEntry, SettledAs, SettleEntry};
-ghost use Rattle.search.specs.Search.{ForwardEntry, FoundIn, ParseEntry, FoundAs};
-ghost use Rattle.search.specs.Search.{rowCells, RowCellsEntry, SearchEntry, Searched};
+ghost use Rattle.search.specs.Contracts.{barOf, EnterPre, PassPre, Rooted, RootsTo, PassedBar, CutVector};
+ghost use Rattle.search.specs.Contracts.{SuffixStepPre, SuffixStep, BackwardPre, VectorsFrom, BarsBuildPre, CommittedAs, CommitPre};
+ghost use Rattle.search.specs.Contracts.{ForwardPre, FoundIn, ParsePre, FoundAs};
+ghost use Rattle.search.specs.Contracts.{rowCells, RowCellsPre, SearchPre, Searched};
 use building::build;
 use expansions::PackedUnits;
 use expansions::pack_units;
@@ -48,7 +48,7 @@ use sizes::most_in_bar;
 // The cells of the rows of all bars.
 const ROOT_CELLS: usize = ITEM_CELLS * BARS_MOST;
 
-// The cells of the vectors, four before each bar and four behind the last.
+// The cells of the suffix costs, four before each bar and four behind the last.
 const VECTOR_CELLS: usize = 4 * (BARS_MOST + 1);
 
 // What the search gives: there is no tree, or how many bytes the tree has and what it totals.
@@ -60,7 +60,7 @@ pub enum Found {
 // Sets the first n cells to 0.
 fn clear(cells: &mut [u64], n: usize)
     requires { ⌜ n ≤ length (now cells) ⌝ }
-    ensures { λ _. ⌜ Table (λ _. 0) (now (cells .entry)) (now (cells .exit)) n ⌝ }
+    ensures { λ _. ⌜ Filled (λ _. 0) (now (cells .entry)) (now (cells .exit)) n ⌝ }
 {
     let mut i: usize = 0;
     while i < n {
@@ -71,8 +71,8 @@ fn clear(cells: &mut [u64], n: usize)
 
 // Bar b, of whose rows the table has so many slots.
 fn enter(units: &PackedUnits, b: usize, slots: usize) -> Bar
-    requires { ⌜ ((s : Sheet) × EnterEntry s (now units) b slots) ⌝ }
-    ensures { λ r. ⌜ ((s : Sheet) → EnterEntry s (now (units .entry)) b slots → r ≡ barOf s b) ⌝ }
+    requires { ⌜ ((s : Sheet) × EnterPre s (now units) b slots) ⌝ }
+    ensures { λ r. ⌜ ((s : Sheet) → EnterPre s (now (units .entry)) b slots → r ≡ barOf s b) ⌝ }
 {
     let lo = BAR_UNITS * (b as u32);
     let first = first_behind(units, 0, Units(lo));
@@ -84,7 +84,7 @@ fn enter(units: &PackedUnits, b: usize, slots: usize) -> Bar
     }
 }
 
-// The row of a bar from carry state c, where v is the vector before it; no tree where c is idle.
+// The row of a bar from carry state c, where v is the prefix costs; no tree where c is idle.
 fn root_row<'a>(
     plan: &'a Plan,
     units: &'a PackedUnits,
@@ -94,9 +94,9 @@ fn root_row<'a>(
     v: [u64; 4],
     c: usize,
 ) -> [u64; 4]
-    requires { ⌜ (c < carries) × ((s : Sheet) × PassEntry s (now plan) (now units) (now rows) bar start v) ⌝ }
+    requires { ⌜ (c < carries) × ((s : Sheet) × PassPre s (now plan) (now units) (now rows) bar start v) ⌝ }
     ensures { λ y. ⌜
-        ((s : Sheet) → PassEntry s (now (plan .entry)) (now (units .entry)) (now (rows .entry)) bar start v
+        ((s : Sheet) → PassPre s (now (plan .entry)) (now (units .entry)) (now (rows .entry)) bar start v
         → Rooted s (now (rows .exit)) (bar .number) c y)
         ⌝ }
 {
@@ -107,7 +107,7 @@ fn root_row<'a>(
     cells(plan, units, rows, bar, start, 0, Units(lo), bar.first, c)
 }
 
-// Stores the rows of a bar from each carry state; gives the vector behind it.
+// Stores the rows of a bar from each carry state; gives the prefix costs behind it.
 fn pass<'a>(
     plan: &'a Plan,
     units: &'a PackedUnits,
@@ -118,10 +118,10 @@ fn pass<'a>(
     v: [u64; 4],
 ) -> [u64; 4]
     requires { ⌜
-        ((s : Sheet) × PassEntry s (now plan) (now units) (now rows) bar start v × RootsTo s (now roots) (bar .number) 0)
+        ((s : Sheet) × PassPre s (now plan) (now units) (now rows) bar start v × RootsTo s (now roots) (bar .number) 0)
         ⌝ }
     ensures { λ w. ⌜
-        ((s : Sheet) → PassEntry s (now (plan .entry)) (now (units .entry)) (now (rows .entry)) bar start v
+        ((s : Sheet) → PassPre s (now (plan .entry)) (now (units .entry)) (now (rows .entry)) bar start v
         → RootsTo s (now (roots .entry)) (bar .number) 0 → PassedBar s (now (rows .exit)) (now (roots .exit)) (bar .number) w)
         ⌝ }
 {
@@ -138,10 +138,10 @@ fn pass<'a>(
     o
 }
 
-// Whether every least tree carries nothing over the bar line, where v is the vector before it.
-fn closed(plan: &Plan, v: [u64; 4]) -> bool
+// Whether every least tree carries nothing over the bar line, where v is the prefix costs there.
+fn is_cut_point(plan: &Plan, v: [u64; 4]) -> bool
     requires { ⌜ Low v × ((s : Sheet) × Prepared s (now plan)) ⌝ }
-    ensures { λ r. ⌜ ((s : Sheet) → Prepared s (now (plan .entry)) → r ≡ true → Closed s v) ⌝ }
+    ensures { λ r. ⌜ ((s : Sheet) → Prepared s (now (plan .entry)) → r ≡ true → CutVector s v) ⌝ }
 {
     if v[0] >= NONE {
         return false;
@@ -156,10 +156,10 @@ fn closed(plan: &Plan, v: [u64; 4]) -> bool
     false
 }
 
-// The vector before bar b, of its rows and the vector v behind it.
-fn before(roots: &[u64], b: usize, v: [u64; 4]) -> [u64; 4]
-    requires { ⌜ ((s : Sheet) × (e : ℕ) × BeforeEntry s (now roots) e b v) ⌝ }
-    ensures { λ w. ⌜ ((s : Sheet) (e : ℕ) → BeforeEntry s (now (roots .entry)) e b v → BeforeAs (now (roots .entry)) b v w) ⌝ }
+// The suffix costs from bar b on, of its rows and the suffix costs v behind it.
+fn suffix_step(roots: &[u64], b: usize, v: [u64; 4]) -> [u64; 4]
+    requires { ⌜ ((s : Sheet) × (e : ℕ) × SuffixStepPre s (now roots) e b v) ⌝ }
+    ensures { λ w. ⌜ ((s : Sheet) (e : ℕ) → SuffixStepPre s (now (roots .entry)) e b v → SuffixStep (now (roots .entry)) b v w) ⌝ }
 {
     let at = ITEM_CELLS * b;
     [
@@ -170,12 +170,12 @@ fn before(roots: &[u64], b: usize, v: [u64; 4]) -> [u64; 4]
     ]
 }
 
-// Fills a table with the vectors before the bars from bar `from` on that are before bar `end`, and the one behind them: nothing is carried
+// Fills a table with the suffix costs of the bars from bar `from` on that are before bar `end`, and the one behind them: nothing is carried
 // on.
 fn backward<'a>(roots: &'a [u64], vectors: &mut [u64], from: usize, end: usize)
-    requires { ⌜ ((s : Sheet) × BackEntry s (now roots) (now vectors) from end) ⌝ }
+    requires { ⌜ ((s : Sheet) × BackwardPre s (now roots) (now vectors) from end) ⌝ }
     ensures { λ _. ⌜
-        ((s : Sheet) → BackEntry s (now (roots .entry)) (now (vectors .entry)) from end → VectorsFrom s (now (vectors .exit)) end from)
+        ((s : Sheet) → BackwardPre s (now (roots .entry)) (now (vectors .entry)) from end → VectorsFrom s (now (vectors .exit)) end from)
         ⌝ }
 {
     let mut v = only_at(0);
@@ -183,7 +183,7 @@ fn backward<'a>(roots: &'a [u64], vectors: &mut [u64], from: usize, end: usize)
     let mut b = end;
     while from < b {
         b -= 1;
-        let w = before(roots, b, v);
+        let w = suffix_step(roots, b, v);
         store(vectors, 4 * b, w, 0);
         v = w;
     }
@@ -203,12 +203,12 @@ fn build_bars<'a>(
     n: usize,
 ) -> usize
     requires { ⌜
-        ((s : Sheet) × BarsBuildEntry s (now plan) (now units) (now rows) (now tree) (now vectors) (now roots) start from end n)
+        ((s : Sheet) × BarsBuildPre s (now plan) (now units) (now rows) (now tree) (now vectors) (now roots) start from end n)
         ⌝ }
     ensures { λ k. ⌜
         ((s : Sheet)
-        → BarsBuildEntry s (now (plan .entry)) (now (units .entry)) (now (rows .entry)) (now (tree .entry)) (now (vectors .entry))
-        (now (roots .entry)) start from end n → SettledAs s (now (rows .exit)) (now (tree .exit)) end k)
+        → BarsBuildPre s (now (plan .entry)) (now (units .entry)) (now (rows .entry)) (now (tree .entry)) (now (vectors .entry))
+        (now (roots .entry)) start from end n → CommittedAs s (now (rows .exit)) (now (tree .exit)) end k)
         ⌝ }
 {
     let slots = rows.len() / 4;
@@ -244,7 +244,7 @@ fn build_bars<'a>(
 
 // Builds the bars from bar `from` on that are before bar `end`, where no least tree carries anything into the first of them or on from the
 // last: with n bytes before them; gives the number of bytes.
-fn settle<'a>(
+fn commit<'a>(
     plan: &'a Plan,
     units: &'a PackedUnits,
     rows: &mut [u64],
@@ -257,12 +257,12 @@ fn settle<'a>(
     n: usize,
 ) -> usize
     requires { ⌜
-        ((s : Sheet) × SettleEntry s (now plan) (now units) (now rows) (now tree) (now roots) (now vectors) start from end n)
+        ((s : Sheet) × CommitPre s (now plan) (now units) (now rows) (now tree) (now roots) (now vectors) start from end n)
         ⌝ }
     ensures { λ k. ⌜
         ((s : Sheet)
-        → SettleEntry s (now (plan .entry)) (now (units .entry)) (now (rows .entry)) (now (tree .entry)) (now (roots .entry))
-        (now (vectors .entry)) start from end n → SettledAs s (now (rows .exit)) (now (tree .exit)) end k)
+        → CommitPre s (now (plan .entry)) (now (units .entry)) (now (rows .entry)) (now (tree .entry)) (now (roots .entry))
+        (now (vectors .entry)) start from end n → CommittedAs s (now (rows .exit)) (now (tree .exit)) end k)
         ⌝ }
 {
     backward(roots, vectors, from, end);
@@ -294,11 +294,11 @@ fn forward<'a>(
     count: usize,
 ) -> Found
     requires { ⌜
-        ((s : Sheet) × ForwardEntry s (now plan) (now units) (now order) (now rows) (now tree) (now roots) (now vectors) start count)
+        ((s : Sheet) × ForwardPre s (now plan) (now units) (now order) (now rows) (now tree) (now roots) (now vectors) start count)
         ⌝ }
     ensures { λ r. ⌜
         ((s : Sheet)
-        → ForwardEntry s (now (plan .entry)) (now (units .entry)) (now (order .entry)) (now (rows .entry)) (now (tree .entry))
+        → ForwardPre s (now (plan .entry)) (now (units .entry)) (now (order .entry)) (now (rows .entry)) (now (tree .entry))
         (now (roots .entry)) (now (vectors .entry)) start count → FoundIn s (now (tree .exit)) r)
         ⌝ }
 {
@@ -313,8 +313,8 @@ fn forward<'a>(
         let w = pass(plan, units, rows, roots, bar, start, v);
         v = w;
         b += 1;
-        if closed(plan, v) {
-            next = settle(
+        if is_cut_point(plan, v) {
+            next = commit(
                 plan,
                 units,
                 rows,
@@ -333,7 +333,7 @@ fn forward<'a>(
     if total >= NONE {
         return Found::NoTree;
     }
-    let nodes = settle(
+    let nodes = commit(
         plan,
         units,
         rows,
@@ -370,9 +370,9 @@ fn parse<'a>(
     start: usize,
     count: usize,
 ) -> Found
-    requires { ⌜ ((s : Sheet) × ParseEntry s (now plan) (now units) (now rows) (now tree) start count) ⌝ }
+    requires { ⌜ ((s : Sheet) × ParsePre s (now plan) (now units) (now rows) (now tree) start count) ⌝ }
     ensures { λ r. ⌜
-        ((s : Sheet) → ParseEntry s (now (plan .entry)) (now (units .entry)) (now (rows .entry)) (now (tree .entry)) start count
+        ((s : Sheet) → ParsePre s (now (plan .entry)) (now (units .entry)) (now (rows .entry)) (now (tree .entry)) start count
         → FoundAs s (now (tree .entry)) (now (tree .exit)) r)
         ⌝ }
 {
@@ -404,8 +404,8 @@ fn parse<'a>(
 
 // How many cells the rows take, four a slot, where `most` is the largest number of onsets in a bar.
 fn row_cells(plan: &Plan, most: usize) -> usize
-    requires { ⌜ ((s : Sheet) × RowCellsEntry s (now plan) most) ⌝ }
-    ensures { λ n. ⌜ ((s : Sheet) → RowCellsEntry s (now (plan .entry)) most → n ≡ rowCells s) ⌝ }
+    requires { ⌜ ((s : Sheet) × RowCellsPre s (now plan) most) ⌝ }
+    ensures { λ n. ⌜ ((s : Sheet) → RowCellsPre s (now (plan .entry)) most → n ≡ rowCells s) ⌝ }
 {
     ITEM_CELLS * (nonterminals(plan) * length_count(plan) * most)
 }
@@ -418,9 +418,9 @@ pub fn least_tree(
     tree: &mut [u8],
     work: &mut [u64],
 ) -> Found
-    requires { ⌜ ((s : Sheet) × SearchEntry s grammar playing (now tree) (now work)) ⌝ }
+    requires { ⌜ ((s : Sheet) × SearchPre s grammar playing (now tree) (now work)) ⌝ }
     ensures { λ r. ⌜
-        ((s : Sheet) → SearchEntry s grammar playing (now (tree .entry)) (now (work .entry))
+        ((s : Sheet) → SearchPre s grammar playing (now (tree .entry)) (now (work .entry))
         → Searched s (now (tree .entry)) (now (tree .exit)) (now (work .entry)) (now (work .exit)) r)
         ⌝ }
 {

@@ -13,7 +13,7 @@ pub const BAR_UNITS: u32 = 20160;
 // The units of the longest piece.
 pub const PIECE_UNITS: u32 = BAR_UNITS * (BARS_MOST as u32);
 
-// Musical time, in units, counted from the first bar.
+// Musical time, in units: BAR_UNITS a bar.
 pub struct Units(pub u32);
 
 // The unit of a moment, counted from the first bar, where a bar lasts `duration`.

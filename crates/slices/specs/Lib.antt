@@ -1,6 +1,6 @@
 pub mod Over
 pub mod Pad
-pub mod Table
+pub mod Filled
 pub mod Every
 pub mod Lookup
 pub mod Test

@@ -15,7 +15,7 @@ use Rattle.sheet.specs.Reading.{readSheet}
 use Rattle.sheet.specs.Cases.{grammarS, headS, S}
 use Rattle.derivations.specs.Derivation.{derive, onto}
 use Rattle.derivations.specs.Minima.{lowest}
-use Rattle.derivations.specs.Table.{via, forward}
+use Rattle.derivations.specs.Folds.{via, forward}
 use Rattle.trees.specs.ValidTrees.{whose, bars, distanceTo, totalOf}
 use Rattle.trees.specs.Instance.{instanceOf}
 use Rattle.trees.specs.LeastTotal.{NONE, leastTotal}

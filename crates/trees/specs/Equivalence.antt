@@ -8,7 +8,7 @@ use native.Mathlib.Nat.{zero-add, suc-ne-zero}
 use lib.ListN.{length, length-append}
 use Rattle.sheet.specs.Sheet.{division, leaf, Onset, Sheet}
 use Rattle.derivations.specs.Derivation.{Item, Expansion, Price, derive, unspent, price-eq, cons-derive, derive-append}
-use Rattle.trees.specs.ValidTrees.{Forest, Tree, written, writtenAll, early, row, bars, ruleAt, mayDivide, Leaf, byLeaf, byDivision}
+use Rattle.trees.specs.ValidTrees.{Forest, Tree, written, writtenAll, early, adjoining, bars, ruleAt, mayDivide, Leaf, byLeaf, byDivision}
 use Rattle.trees.specs.ValidTrees.{ParsedAll, emptyForest, nextTree, placedFrom, carriedOut, ValidTree, ruleWeight, Priced}
 use Rattle.trees.specs.Instance.{atLeaf, atDivision, instanceOf, Derived}
 use Rattle.trees.specs.Expansions.{LeafStep, DivisionStep, leaf-expands, division-expands}
@@ -43,7 +43,7 @@ module _ (s : Sheet) where
 
   division-derived : (r h w : ℕ) (ks : List ℕ) (g : Item) (bs : List ℕ) (ls : List Leaf) → ruleAt s r ≡ some (division h w ks)
       → h ≡ g .nonterminal → mayDivide s (length ks) (g .left) (g .len) ≡ true → (cs : List Onset)
-      → DerivedFrom bs (row (g .left) (g .len / length ks) ks) cs ls → DerivedFrom (r ∷ bs) (g ∷ []) cs ls
+      → DerivedFrom bs (adjoining (g .left) (g .len / length ks) ks) cs ls → DerivedFrom (r ∷ bs) (g ∷ []) cs ls
   unfolding instanceOf atDivision ruleWeight
   division-derived r h w ks g bs ls e f d cs k =
       cons-derive (instanceOf s) r bs g [] (length cs) m _ (division-expands s g (length cs) r m step) (rw append-nil k)

@@ -12,7 +12,7 @@ use Rattle.derivations.specs.Derivation.{Item, Price, price-eq}
 use Rattle.derivations.specs.Minima.{only, only-same, only-below}
 use Rattle.derivations.specs.Least.{Least, total}
 use Rattle.derivations.specs.First.{Lex, First, first-total}
-use Rattle.derivations.specs.Table.{Exact, backward-least}
+use Rattle.derivations.specs.Folds.{Exact, backward-least}
 use Rattle.derivations.specs.Cells.{cell-exact}
 use Rattle.derivations.specs.Rebuild.{first-exists}
 use Rattle.trees.specs.ValidTrees.{bars, ValidTree, Priced, totalOf}

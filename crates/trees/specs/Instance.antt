@@ -9,7 +9,7 @@ use lib.Dec.{eqb, leb}
 use lib.ListN.{length}
 use Rattle.sheet.specs.Sheet.{Rule, division, leaf, Sheet}
 use Rattle.derivations.specs.Derivation.{Item, Expansion, Instance, derive}
-use Rattle.trees.specs.ValidTrees.{inside, early, late, onsetsBefore, row, bars, ruleAt, mayDivide, token, weightAt, distanceTo}
+use Rattle.trees.specs.ValidTrees.{inside, early, late, onsetsBefore, adjoining, bars, ruleAt, mayDivide, token, weightAt, distanceTo}
 
 -- A late onset is placed at the next leaf's left bound, which is this leaf's right bound. So its distance belongs to the leaf that it lies
 -- in, and of the onsets carried in only their number matters.
@@ -37,7 +37,7 @@ unfoldable pub atLeaf : Sheet → Item → Expansion
 atLeaf s g = record { parts = []; carry = lateCount s (g .left) (g .len); distance = ownDistance s (g .left) (g .len) }
 
 unfoldable pub atDivision : Item → (carried : ℕ) → List ℕ → Expansion
-atDivision g c ks = record { parts = row (g .left) (g .len / length ks) ks; carry = c; distance = 0 }
+atDivision g c ks = record { parts = adjoining (g .left) (g .len / length ks) ks; carry = c; distance = 0 }
 
 -- a rule at an item that c onsets are carried into: its head is the item's nonterminal, a leaf's n fits and at most three are late, a
 -- division is allowed

@@ -12,7 +12,7 @@ use Rattle.derivations.specs.Derivation.{Item, Expansion}
 use Rattle.trees.specs.ValidTrees.{bars}
 use Rattle.trees.specs.Instance.{instanceOf}
 use Rattle.trees.specs.Expansions.{may-divide, parts-whole}
-use Rattle.trees.specs.Laws.{row-every, partOf, each-part}
+use Rattle.trees.specs.Laws.{adjoining-every, partOf, each-part}
 
 -- an item of the bar that begins at `start`: its left bound is a multiple of its length from there, and it ends inside the bar
 pub record Aligned (start : ℕ) (g : Item) : Type 0 where
@@ -54,7 +54,7 @@ module _ (s : Sheet) where
   bars-aligned : Every (λ (g : Item). (b : ℕ) × Aligned (b * barUnits) g) (bars s)
   unfolding bars
   bars-aligned =
-      row-every _ 0 barUnits (replicate (s .playing .bars) (s .grammar .start))
+      adjoining-every _ 0 barUnits (replicate (s .playing .bars) (s .grammar .start))
       (λ j q h. (j, record { times = 0; is = omega arith; ends = omega arith }))
 
   -- every item of a sheet lies in one bar, at a multiple of its length from the bar's start

@@ -15,28 +15,28 @@ use Rattle.sheet.specs.Sheet.{division, Sheet}
 use Rattle.sheet.specs.Good.{GoodRules}
 use Rattle.derivations.specs.Derivation.{Item, Expansion, Lawful}
 use Rattle.derivations.specs.Cells.{Falls}
-use Rattle.trees.specs.ValidTrees.{row, ruleAt, mayDivide}
+use Rattle.trees.specs.ValidTrees.{adjoining, ruleAt, mayDivide}
 use Rattle.trees.specs.Instance.{atLeaf, atDivision, instanceOf}
 use Rattle.trees.specs.Expansions.{Step, step-of}
 use Rattle.trees.specs.Onsets.{divided-long}
 use Rattle.trees.specs.Room.{good-division}
 
 -- a property of the intervals in a row, by their places
-pub row-every : (X : Item → Type 0) (l p : ℕ) (qs : List ℕ)
-    → ((j q : ℕ) → j < length qs → X (record { nonterminal = q; left = l + j * p; len = p })) → Every X (row l p qs)
-row-every X l p [] h = tt
-row-every X l p (q ∷ qs) h =
-    (at-left (omega arith) (h 0 q (omega arith)), row-every X (l + p) p qs (λ j k i. at-left (omega arith) (h (suc j) k (omega arith))))
+pub adjoining-every : (X : Item → Type 0) (l p : ℕ) (qs : List ℕ)
+    → ((j q : ℕ) → j < length qs → X (record { nonterminal = q; left = l + j * p; len = p })) → Every X (adjoining l p qs)
+adjoining-every X l p [] h = tt
+adjoining-every X l p (q ∷ qs) h =
+    (at-left (omega arith) (h 0 q (omega arith)), adjoining-every X (l + p) p qs (λ j k i. at-left (omega arith) (h (suc j) k (omega arith))))
   where
     at-left : {x y k : ℕ} → x ≡ y → X (record { nonterminal = k; left = x; len = p }) → X (record { nonterminal = k; left = y; len = p })
     at-left {k = k} e t = subst (λ (z : ℕ). X (record { nonterminal = k; left = z; len = p })) e t
 
 -- intervals in a row, then more of them
-pub row-append : (l p : ℕ) (xs ys : List ℕ) → row l p (xs ++ ys) ≡ row l p xs ++ row (l + length xs * p) p ys
-row-append l p [] ys = ap (λ (x : ℕ). row x p ys) (omega arith)
-row-append l p (x ∷ xs) ys =
-    ap (λ (gs : List Item). record { nonterminal = x; left = l; len = p } ∷ gs) (row-append (l + p) p xs ys
-    ∙ ap (λ (z : ℕ). row (l + p) p xs ++ row z p ys) (omega arith))
+pub adjoining-append : (l p : ℕ) (xs ys : List ℕ) → adjoining l p (xs ++ ys) ≡ adjoining l p xs ++ adjoining (l + length xs * p) p ys
+adjoining-append l p [] ys = ap (λ (x : ℕ). adjoining x p ys) (omega arith)
+adjoining-append l p (x ∷ xs) ys =
+    ap (λ (gs : List Item). record { nonterminal = x; left = l; len = p } ∷ gs) (adjoining-append (l + p) p xs ys
+    ∙ ap (λ (z : ℕ). adjoining (l + p) p xs ++ adjoining z p ys) (omega arith))
 
 -- part j of the item g, divided into k, under nonterminal q
 abbrev pub partOf : Item → (k j q : ℕ) → Item
@@ -63,7 +63,7 @@ module _ (s : Sheet) where
       go : Step s g c r m → Every X (m .parts)
       go (inl l) = rw (l .is) tt
       go (inr d) =
-          rw (d .is) (row-every X (g .left) (g .len / length (d .kids)) (d .kids) (h (d .weight) (d .kids) (d .rule) (d .allowed)))
+          rw (d .is) (adjoining-every X (g .left) (g .len / length (d .kids)) (d .kids) (h (d .weight) (d .kids) (d .rule) (d .allowed)))
 
   -- a division's parts are shorter: it has two or more, and an onset lies inside
   pub falls : GoodRules (s .grammar) → Falls (instanceOf s) (λ g. g .len)

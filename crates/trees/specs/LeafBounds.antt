@@ -18,7 +18,7 @@ use Rattle.trees.specs.ValidTrees.{ParsedAll, emptyForest, nextTree, Ent
 use Rattle.trees.specs.Instance.{onsetsIn, earlyCount}
 use Rattle.trees.specs.Expansions.{may-divide, parts-whole}
 use Rattle.trees.specs.Onsets.{contains-bounds, early-late}
-use Rattle.trees.specs.Laws.{row-every, partOf}
+use Rattle.trees.specs.Laws.{adjoining-every, partOf}
 use Rattle.trees.specs.Leaves.{leavesOf, entriesOf, leaves-of}
 
 -- an interval lies in one bar of the piece
@@ -85,7 +85,7 @@ module _ (s : Sheet) where
         | byLeaf r h w n g e f ↦ λ a. (a, tt)
         | byDivision r h w ks g ts ls e f d (q → ih) ↦ λ a.
             let k = length ks in
-            ih (row-every (ItemInOneBar s) (g .left) (g .len / k) ks
+            ih (adjoining-every (ItemInOneBar s) (g .left) (g .len / k) ks
             (λ j x i. part-in-bar g k j x a (may-divide s k (g .left) (g .len) d .0) i))
         | emptyForest ↦ λ a. tt
         | nextTree t g ls ts gs ms (q → ih) (qs → ihs) ↦ λ a. every-append (LeafInOneBar s) ls ms (ih (a .0)) (ihs (a .1))
@@ -95,7 +95,7 @@ module _ (s : Sheet) where
   unfolding bars
   bars-in-bars =
       let n = s .playing .bars in
-      row-every (ItemInOneBar s) 0 barUnits (replicate n (s .grammar .start))
+      adjoining-every (ItemInOneBar s) 0 barUnits (replicate n (s .grammar .start))
       (λ j q h. record {
         bar = j;
         below = omega (arith, h, length-replicate n (s .grammar .start));

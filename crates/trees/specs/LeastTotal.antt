@@ -3,7 +3,7 @@
 use Prim.Native.Nat.{ℕ, _^_}
 use Rattle.sheet.specs.Sheet.{Sheet}
 use Rattle.derivations.specs.Minima.{only}
-use Rattle.derivations.specs.Table.{Cells, backward}
+use Rattle.derivations.specs.Folds.{Cells, backward}
 use Rattle.derivations.specs.Cells.{cell, cellTo}
 use Rattle.trees.specs.ValidTrees.{bars}
 use Rattle.trees.specs.Instance.{instanceOf}

@@ -9,7 +9,7 @@ use Rattle.slices.specs.Every.{Every}
 use Rattle.sheet.specs.Sheet.{division, leaf, Sheet}
 use Rattle.sheet.specs.Good.{GoodOnsets}
 use Rattle.derivations.specs.Derivation.{Item}
-use Rattle.trees.specs.ValidTrees.{Forest, written, writtenAll, row, bars, ruleAt, Leaf, byLeaf, byDivision}
+use Rattle.trees.specs.ValidTrees.{Forest, written, writtenAll, adjoining, bars, ruleAt, Leaf, byLeaf, byDivision}
 use Rattle.trees.specs.ValidTrees.{ParsedAll, emptyForest, nextTree, Entry, entries, KindFits, ValidTree}
 use Rattle.trees.specs.Placing.{allPlaced, each-placed-once}
 
@@ -26,7 +26,7 @@ leavesFrom s (r ∷ bs) [] = []
 leavesFrom s (r ∷ bs) (g ∷ gs) = elim (ruleAt s r) [
   | none ↦ []
   | some ru ↦ elim ru [
-    | division h w ks ↦ leavesFrom s bs (row (g .left) (g .len / length ks) ks ++ gs)
+    | division h w ks ↦ leavesFrom s bs (adjoining (g .left) (g .len / length ks) ks ++ gs)
     | leaf h w n ↦ leafAt g n ∷ leavesFrom s bs gs
   ]
 ]
@@ -61,12 +61,12 @@ module _ (s : Sheet) where
   leaves-leaf g r h w n xs e hs = rw (e, leavesFrom) refl
 
   pub leaves-divided : (g : Item) (gs : List Item) (r h w : ℕ) (ks xs : List ℕ) → ruleAt s r ≡ some (division h w ks)
-      → leavesFrom s (r ∷ xs) (g ∷ gs) ≡ leavesFrom s xs (row (g .left) (g .len / length ks) ks ++ gs)
+      → leavesFrom s (r ∷ xs) (g ∷ gs) ≡ leavesFrom s xs (adjoining (g .left) (g .len / length ks) ks ++ gs)
   unfolding leavesFrom
   leaves-divided g gs r h w ks xs e = rw (e, leavesFrom) refl
 
   leaves-division : (g : Item) (r h w : ℕ) (ks : List ℕ) (xs ys : List ℕ) (ls : List Leaf) → ruleAt s r ≡ some (division h w ks)
-      → LeavesRead (row (g .left) (g .len / length ks) ks) xs ys ls → LeavesRead (g ∷ []) (r ∷ xs) ys ls
+      → LeavesRead (adjoining (g .left) (g .len / length ks) ks) xs ys ls → LeavesRead (g ∷ []) (r ∷ xs) ys ls
   leaves-division g r h w ks xs ys ls e k hs = leaves-divided g hs r h w ks xs e ∙ k hs
 
   -- ---- the whole list

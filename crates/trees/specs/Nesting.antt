@@ -11,7 +11,7 @@ use Rattle.trees.specs.ValidTrees.{Tree, Forest, node, nil, cons, bars, 
 use Rattle.trees.specs.ValidTrees.{ValidTree}
 use Rattle.trees.specs.Depth.{depth, depth-bar}
 use Rattle.trees.specs.Room.{division-deep}
-use Rattle.trees.specs.Laws.{row-every}
+use Rattle.trees.specs.Laws.{adjoining-every}
 
 -- over the trees below a root: one for the root's division, none where there is no tree
 abbrev under : Forest → ℕ → ℕ
@@ -41,7 +41,7 @@ module _ (s : Sheet) (good : GoodRules (s .grammar)) where
       (λ ts gs ls q. (n : ℕ) → Every (λ (g : Item). depth (g .len) ≤ n) gs → nestingAll ts ≤ n) [
         | byLeaf r h w n g e f ↦ omega arith
         | byDivision r h w ks g ts ls e f d (q → ih) ↦
-            let below = ih (depth (g .len / length ks)) (row-every _ (g .left) (g .len / length ks) ks (λ j c i. omega arith)) in
+            let below = ih (depth (g .len / length ks)) (adjoining-every _ (g .left) (g .len / length ks) ks (λ j c i. omega arith)) in
             omega (arith, below, under-most ts (nestingAll ts), division-deep s good r h w ks (g .left) (g .len) e d)
         | emptyForest ↦ λ n every. omega arith
         | nextTree t g ls ts gs ms (q → ih) (qs → ihs) ↦ λ n every. omega (arith, ih, ihs n (every .1), every .0)
@@ -50,4 +50,4 @@ module _ (s : Sheet) (good : GoodRules (s .grammar)) where
   pub at-most-ten-nest : (bs : List ℕ) (v : ValidTree s bs) → nestingAll (v .trees) ≤ 10
   unfolding bars
   at-most-ten-nest bs v =
-      nests (v .parsed) 10 (row-every _ 0 barUnits (replicate (s .playing .bars) (s .grammar .start)) (λ j c i. omega (arith, depth-bar)))
+      nests (v .parsed) 10 (adjoining-every _ 0 barUnits (replicate (s .playing .bars) (s .grammar .start)) (λ j c i. omega (arith, depth-bar)))

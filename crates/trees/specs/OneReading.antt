@@ -8,7 +8,7 @@ use mathlib.Core.Option.{some, Option·some-injective}
 use lib.ListN.{length}
 use Rattle.sheet.specs.Sheet.{Rule, division, leaf, Sheet}
 use Rattle.derivations.specs.Derivation.{Item}
-use Rattle.trees.specs.ValidTrees.{Forest, Tree, node, cons, nil, written, writtenAll, row, ruleAt, Leaf, Parsed, byLeaf}
+use Rattle.trees.specs.ValidTrees.{Forest, Tree, node, cons, nil, written, writtenAll, adjoining, ruleAt, Leaf, Parsed, byLeaf}
 use Rattle.trees.specs.ValidTrees.{byDivision, ParsedAll, emptyForest, nextTree, entries, ValidTree, distanceOf, Priced}
 
 -- two trees or forests are equal, and so are their leaves, and what is written after them
@@ -46,7 +46,7 @@ module _ (s : Sheet) where
       absurd (leaf≢division h w n i v ks (same-rule r q _ _ _ _ e e₂ k))
 
   one-division : (r h w : ℕ) (ks : List ℕ) (g : Item) (ts : Forest) (ls : List Leaf) → ruleAt s r ≡ some (division h w ks)
-      → OneForest ts (row (g .left) (g .len / length ks) ks) ls → OneTree (node r ts) g ls
+      → OneForest ts (adjoining (g .left) (g .len / length ks) ks) ls → OneTree (node r ts) g ls
   unfolding written
   one-division r h w ks g ts ls e ih u ms (byLeaf q i v m g₂ e₂ f₂) xs ys k =
       absurd (leaf≢division i v m h w ks (sym (same-rule r q _ _ _ _ e e₂ k)))

@@ -9,7 +9,7 @@ use lib.ListN.{length, replicate, length-replicate}
 use Rattle.sheet.specs.Sheet.{Onset, Sheet, barUnits}
 use Rattle.sheet.specs.Good.{Rising, GoodOnsets}
 use Rattle.derivations.specs.Derivation.{Item}
-use Rattle.trees.specs.ValidTrees.{Forest, whose, early, late, row, bars, mayDivide, Leaf, byLeaf, byDivision}
+use Rattle.trees.specs.ValidTrees.{Forest, whose, early, late, adjoining, bars, mayDivide, Leaf, byLeaf, byDivision}
 use Rattle.trees.specs.ValidTrees.{ParsedAll, emptyForest, nextTree, Entry, placedFrom, carriedOut, entries, ValidTree, distanceTo, distanceOf}
 use Rattle.trees.specs.Instance.{ownDistance}
 use Rattle.trees.specs.Expansions.{may-divide, parts-whole}
@@ -37,18 +37,18 @@ ItemsAdjoin = Adjoin (λ g. g .left) (λ g. g .len)
 abbrev pub LeavesAdjoin : (left : ℕ) → List Leaf → (right : ℕ) → Type 0
 LeavesAdjoin = Adjoin (λ l. l .left) (λ l. l .len)
 
-pub row-adjoins : (left len : ℕ) (ks : List ℕ) → ItemsAdjoin left (row left len ks) (left + length ks * len)
-row-adjoins left len [] = omega arith
-row-adjoins left len (k ∷ ks) =
-    (refl, subst (ItemsAdjoin (left + len) (row (left + len) len ks)) (omega arith) (row-adjoins (left + len) len ks))
+pub adjoining-items : (left len : ℕ) (ks : List ℕ) → ItemsAdjoin left (adjoining left len ks) (left + length ks * len)
+adjoining-items left len [] = omega arith
+adjoining-items left len (k ∷ ks) =
+    (refl, subst (ItemsAdjoin (left + len) (adjoining (left + len) len ks)) (omega arith) (adjoining-items (left + len) len ks))
 
 -- the parts of a division fill its interval
 pub parts-adjoin : (s : Sheet) (left len : ℕ) (ks : List ℕ) → mayDivide s (length ks) left len ≡ true
-    → ItemsAdjoin left (row left (len / length ks) ks) (left + len)
+    → ItemsAdjoin left (adjoining left (len / length ks) ks) (left + len)
 parts-adjoin s left len ks e =
     let k = length ks in
-    subst (ItemsAdjoin left (row left (len / k) ks)) (ap (left +_) (parts-whole k len (may-divide s k left len e .0)))
-    (row-adjoins left (len / k) ks)
+    subst (ItemsAdjoin left (adjoining left (len / k) ks)) (ap (left +_) (parts-whole k len (may-divide s k left len e .0)))
+    (adjoining-items left (len / k) ks)
 
 -- the leaves of a tree fill its item, and the leaves of a forest adjoin if its items do
 pub forest-adjoins : (s : Sheet) {ts : Forest} {gs : List Item} {ls : List Leaf} → ParsedAll s ts gs ls → (left right : ℕ)
@@ -72,7 +72,7 @@ leaves-adjoin s p =
     let n = s .playing .bars in
     let ks : List ℕ = replicate n (s .grammar .start) in
     forest-adjoins s p 0 (n * barUnits)
-    (subst (ItemsAdjoin 0 (row 0 barUnits ks)) (omega (arith, length-replicate n (s .grammar .start))) (row-adjoins 0 barUnits ks))
+    (subst (ItemsAdjoin 0 (adjoining 0 barUnits ks)) (omega (arith, length-replicate n (s .grammar .start))) (adjoining-items 0 barUnits ks))
 
 -- ---- distances
 

@@ -8,7 +8,7 @@ use native.Mathlib.Nat.{zero-add}
 use lib.ListN.{length, length-append}
 use Rattle.sheet.specs.Sheet.{Onset, Sheet}
 use Rattle.derivations.specs.Derivation.{Item, Expansion, Price, derive, priceOf, _⊞_, unspent, price-eq, derive-rec}
-use Rattle.trees.specs.ValidTrees.{Forest, node, cons, nil, written, writtenAll, early, late, onsetsBefore, row, token, Leaf}
+use Rattle.trees.specs.ValidTrees.{Forest, node, cons, nil, written, writtenAll, early, late, onsetsBefore, adjoining, token, Leaf}
 use Rattle.trees.specs.ValidTrees.{byLeaf, byDivision, ParsedAll, emptyForest, nextTree, placedFrom, carriedOut, ruleWeight}
 use Rattle.trees.specs.Instance.{atLeaf, atDivision, instanceOf}
 use Rattle.trees.specs.Expansions.{LeafStep, DivisionStep, Step, step-of}
@@ -106,7 +106,7 @@ module _ (s : Sheet) where
     division-read m n ih cs e = rw (n .is) (go ((rw (n .is) at ih) cs e))
       where
         parts : List Item
-        parts = row (g .left) (g .len / length (n .kids)) (n .kids)
+        parts = adjoining (g .left) (g .len / length (n .kids)) (n .kids)
 
         join : (d : Reading s cs bs (parts ++ gs) q) → Split s parts gs (writtenAll (d .trees)) (d .leaves)
             → ReadBy (atDivision g c (n .kids)) cs

@@ -14,7 +14,7 @@ use Rattle.sheet.specs.Sheet.{Rule, division, leaf, Sheet, barUnits}
 use Rattle.sheet.specs.Good.{GoodRule, GoodRules, GoodDivision, Good}
 use Rattle.derivations.specs.Derivation.{Item, Expansion, Price, derive}
 use Rattle.derivations.specs.Bound.{sumOf, sum-append, sum-at, nodes-bound, distance-bound, weight-bound}
-use Rattle.trees.specs.ValidTrees.{row, bars, ruleAt, mayDivide, weightOf, weightAt, totalOf}
+use Rattle.trees.specs.ValidTrees.{adjoining, bars, ruleAt, mayDivide, weightOf, weightAt, totalOf}
 use Rattle.trees.specs.Instance.{onsetsIn, atLeaf, atDivision, instanceOf}
 use Rattle.trees.specs.Expansions.{Step, may-divide, parts-whole, step-of}
 use Rattle.trees.specs.Onsets.{onsets-add, onsets-none, onsets-most, divided-long, own-distance-most}
@@ -38,19 +38,19 @@ module _ (s : Sheet) where
   reach = share 0 (λ n. n)
 
   -- over items in a row
-  share-row : (b : ℕ) (f : ℕ → ℕ) (l p : ℕ) (qs : List ℕ)
-      → sumOf (share b f) (row l p qs) ≡ length qs * b + f p * onsetsIn s l (length qs * p)
-  share-row b f l p [] = rw (zero-mul p, onsets-none s l) (omega arith)
-  share-row b f l p (q ∷ qs) =
+  share-adjoining : (b : ℕ) (f : ℕ → ℕ) (l p : ℕ) (qs : List ℕ)
+      → sumOf (share b f) (adjoining l p qs) ≡ length qs * b + f p * onsetsIn s l (length qs * p)
+  share-adjoining b f l p [] = rw (zero-mul p, onsets-none s l) (omega arith)
+  share-adjoining b f l p (q ∷ qs) =
       let e : suc (length qs) * p ≡ p + length qs * p = omega arith in
-      rw (e, onsets-add s l p (length qs * p)) (omega (arith, share-row b f (l + p) p qs))
+      rw (e, onsets-add s l p (length qs * p)) (omega (arith, share-adjoining b f (l + p) p qs))
 
   -- over the parts of a division, which make up the whole
   share-parts : (b : ℕ) (f : ℕ → ℕ) (g : Item) (ks : List ℕ) → g .len % length ks ≡ 0
-      → sumOf (share b f) (row (g .left) (g .len / length ks) ks)
+      → sumOf (share b f) (adjoining (g .left) (g .len / length ks) ks)
       ≡ length ks * b + f (g .len / length ks) * onsetsIn s (g .left) (g .len)
   share-parts b f g ks e =
-      share-row b f (g .left) (g .len / length ks) ks
+      share-adjoining b f (g .left) (g .len / length ks) ks
       ∙ ap (λ (n : ℕ). length ks * b + f (g .len / length ks) * onsetsIn s (g .left) n) (parts-whole (length ks) (g .len) e)
 
   -- what an expansion uses, and its parts have, is no more than the item has
@@ -113,7 +113,7 @@ module _ (s : Sheet) where
       omega (
         arith,
         n,
-        rw depth-bar at (share-row 1 (λ n. 8 * depth n) 0 barUnits (replicate (s .playing .bars) (s .grammar .start))),
+        rw depth-bar at (share-adjoining 1 (λ n. 8 * depth n) 0 barUnits (replicate (s .playing .bars) (s .grammar .start))),
         onsets-most s 0 (length (replicate (s .playing .bars) (s .grammar .start)) * barUnits),
       )
 
@@ -122,7 +122,7 @@ module _ (s : Sheet) where
   bars-reach =
       omega (
         arith,
-        share-row 0 (λ n. n) 0 barUnits (replicate (s .playing .bars) (s .grammar .start)),
+        share-adjoining 0 (λ n. n) 0 barUnits (replicate (s .playing .bars) (s .grammar .start)),
         onsets-most s 0 (length (replicate (s .playing .bars) (s .grammar .start)) * barUnits),
       )
 

@@ -64,13 +64,13 @@ abbrev pub ruleAt : Sheet → ℕ → Option Rule
 ruleAt s r = getElem? (s .grammar .rules) r
 
 -- intervals of `len` units in a row from `left` on, "each again parsed under its own nonterminal" (000: the k-split of an interval)
-abbrev pub row : (left len : ℕ) → (nonterminals : List ℕ) → List Item
-row left len [] = []
-row left len (q ∷ qs) = record { nonterminal = q; left = left; len = len } ∷ row (left + len) len qs
+abbrev pub adjoining : (left len : ℕ) → (nonterminals : List ℕ) → List Item
+adjoining left len [] = []
+adjoining left len (q ∷ qs) = record { nonterminal = q; left = left; len = len } ∷ adjoining (left + len) len qs
 
 -- "Each bar has one tree with the start nonterminal at its root"
 unfoldable pub bars : Sheet → List Item
-bars s = row 0 barUnits (replicate (s .playing .bars) (s .grammar .start))
+bars s = adjoining 0 barUnits (replicate (s .playing .bars) (s .grammar .start))
 
 -- "It is allowed only if k divides the length and at least one onset lies inside" (000, Section 3.2: the interval is inhabited)
 unfoldable pub mayDivide : Sheet → (k left len : ℕ) → Bool
@@ -91,7 +91,7 @@ mutual
         → Parsed s (node r nil) g (record { left = g .left; len = g .len; n = n } ∷ [])
     byDivision : (r h w : ℕ) (ks : List ℕ) (g : Item) (ts : Forest) (ls : List Leaf) → ruleAt s r ≡ some (division h w ks)
         → h ≡ g .nonterminal → mayDivide s (length ks) (g .left) (g .len) ≡ true
-        → ParsedAll s ts (row (g .left) (g .len / length ks) ks) ls → Parsed s (node r ts) g ls
+        → ParsedAll s ts (adjoining (g .left) (g .len / length ks) ks) ls → Parsed s (node r ts) g ls
 
   pub data ParsedAll (s : Sheet) : Forest → List Item → List Leaf → Type 0 where
     emptyForest : ParsedAll s nil [] []

@@ -24,5 +24,5 @@ pub +build+build-parts-spec : {M : Type 1} → statement M
     λ t. build-parts-lts.spec (parts-needs.calls t) (build-parts-at t) build-parts.Post parts-needs.Inv-loop parts-needs.μ-loop
     (parts-needs.length-requires t) (parts-needs.loop-holds t) (parts-needs.child-requires t) (parts-needs.add-j t)
     (parts-needs.add-end t) (parts-needs.first-behind-requires t) (parts-needs.cells-requires t) (parts-needs.totals-requires t)
-    (parts-needs.behind-requires t) (parts-needs.build-requires t) (parts-needs.loop-less t) (parts-needs.loop-again t)
+    (parts-needs.suffix-costs-requires t) (parts-needs.build-requires t) (parts-needs.loop-less t) (parts-needs.loop-again t)
     (parts-needs.same-length t) (parts-needs.same-length-2 t) (parts-needs.returns t)

@@ -2,7 +2,7 @@
 -- nothing.
 use mathlib.Core.Path.{sym, _∙_}
 use Rattle.rows.specs.PartLaws.{parted-low}
-use Rattle.building.proofs.BehindSteps.{passed-idle, passed-parts}
+use Rattle.building.proofs.SuffixSteps.{passed-idle, passed-parts}
 use Rattle.building.proofs.passed.Statement.{statement}
 use Rattle.building.proofs.passed.Tie as tie
 

@@ -1,7 +1,7 @@
 -- `find_least` meets its contract: 11 where the search finds no tree, and else the figures of the bytes that it wrote. Assumes nothing.
 use mathlib.Core.Path.{subst}
-use Rattle.search.specs.Search.{Searched}
-use Rattle.finding.proofs.FindSteps.{nothing-found, nodes-fit, front-size, figures-entry, tree-found}
+use Rattle.search.specs.Contracts.{Searched}
+use Rattle.finding.proofs.FindSteps.{nothing-found, nodes-fit, front-size, figures-pre, tree-found}
 use borrow.Author.Needs.{needs}
 use Rattle.finding.proofs.find_least.Statement.{statement}
 use Rattle.finding.proofs.find_least.Tie as tie
@@ -45,7 +45,7 @@ figures-requires c κs =
       s,
       _,
       _,
-      figures-entry entry _ _ _ _
+      figures-pre entry _ _ _ _
           (subst (Searched s (start .args .tree .now) _ (start .args .work .now) _) (found .given .1) (least-tree .ensures s entry)),
     )
 
@@ -79,7 +79,7 @@ returns-2 c =
     let figures = c .figures in
     λ s entry.
     let told = subst (Searched s (start .args .tree .now) _ (start .args .work .now) _) (found .given .1) (least-tree .ensures s entry) in
-    tree-found entry _ _ _ _ told _ (figures .ensures s _ _ (figures-entry entry _ _ _ _ told))
+    tree-found entry _ _ _ _ told _ (figures .ensures s _ _ (figures-pre entry _ _ _ _ told))
 
 pub find-least-spec : {M : Type 1} → statement M
 find-least-spec =

@@ -1,5 +1,5 @@
 -- `find_sheet` meets its contract: 9 and 10 by the lengths of the slices, and else what `find_least` gives. Assumes nothing.
-use Rattle.finding.proofs.FindSteps.{counts, short-work, short-tree, search-entry}
+use Rattle.finding.proofs.FindSteps.{counts, short-work, short-tree, search-pre}
 use borrow.Author.Needs.{needs}
 use Rattle.finding.proofs.find_sheet.Statement.{statement}
 use Rattle.finding.proofs.find_sheet.Tie as tie
@@ -44,7 +44,7 @@ find-least-requires c κs =
     let if2 = c .before .before .if2 in
     let (s, h) = start .pre in (
       s,
-      search-entry h (start .args .tree .now) (start .args .work .now) _ (work-cells .ensures) (if1 .left) _ (tree-bytes .ensures)
+      search-pre h (start .args .tree .now) (start .args .work .now) _ (work-cells .ensures) (if1 .left) _ (tree-bytes .ensures)
           (if2 .left),
     )
 
@@ -62,7 +62,7 @@ returns-3 c =
     let tree-bytes = c .before .before .before .before .before .before .before .before .tree-bytes in
     let if2 = c .before .before .before .before .before .before .before .if2 in
     let find-least = c .before .before .before .before .find-least in
-    λ s h. find-least .ensures s (search-entry h (start .args .tree .now) (start .args .work .now) _ (work-cells .ensures) (if1 .left) _
+    λ s h. find-least .ensures s (search-pre h (start .args .tree .now) (start .args .work .now) _ (work-cells .ensures) (if1 .left) _
     (tree-bytes .ensures) (if2 .left))
 
 pub find-sheet-spec : {M : Type 1} → statement M

@@ -1,7 +1,7 @@
 -- `arity_of` meets its contract. Assumes nothing.
 use borrow.Author.Needs.{needs}
 use borrow.Author.Tests.{eq-eqb, ne-eqb}
-use Rattle.grammar.specs.Steps.{arityOf}
+use Rattle.grammar.specs.Contracts.{arityOf}
 use Rattle.grammar.proofs.arity_of.Statement.{statement}
 use Rattle.grammar.proofs.arity_of.Tie as tie
 

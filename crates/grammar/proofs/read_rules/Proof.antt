@@ -10,7 +10,7 @@ use lib.ListN.{length}
 use Rattle.hextext.specs.Laws.{line-falls, line-within, line-size-pos}
 use Rattle.sheet.specs.Sheet.{Grammar}
 use Rattle.sheet.specs.Held.{grammarTable}
-use Rattle.grammar.specs.Steps.{arityOf}
+use Rattle.grammar.specs.Contracts.{arityOf}
 use Rattle.sheet.specs.Good.{GoodRules}
 use Rattle.grammar.proofs.RuleLoop.{RulesSoFar, rules-none, rules-end, rules-early, rules-done}
 use Rattle.grammar.proofs.RuleLoop.{rules-stop, rule-fits, rules-more, rules-refused}

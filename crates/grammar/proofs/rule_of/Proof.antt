@@ -5,7 +5,7 @@ use Prim.Native.Nat.{ℕ}
 use lib.ListN.{getD}
 use borrow.Author.Tests.{eq-eqb, ne-eqb}
 use Rattle.sheet.specs.declared.table.Rule.the-variants.{Division, Leaf}
-use Rattle.grammar.specs.Steps.{cellOf}
+use Rattle.grammar.specs.Contracts.{cellOf}
 use Rattle.grammar.proofs.rule_of.Statement.{statement}
 use Rattle.grammar.proofs.rule_of.Tie as tie
 

@@ -12,7 +12,7 @@ use Rattle.sheet.specs.Reading.{four, roomRefusal, inOnsets, refusal}
 use Rattle.sheet.specs.Held.{micros}
 use Rattle.sheet.specs.SoFar.{GoodSoFar}
 use Rattle.sheet.specs.Laws.{moment-passed, room-passed}
-use Rattle.playing.specs.Steps.{timingIn, latestOf}
+use Rattle.playing.specs.Contracts.{timingIn, latestOf}
 use Rattle.playing.proofs.OnsetSteps.{other-line, stopped, by-form, by-moment, by-room, moment-is, here-is, run-more}
 use Rattle.playing.proofs.onset_step.Statement.{statement}
 use Rattle.playing.proofs.onset_step.Tie as tie

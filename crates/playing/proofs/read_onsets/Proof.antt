@@ -10,7 +10,7 @@ use Rattle.hextext.specs.Laws.{line-falls}
 use Rattle.playing.proofs.OnsetLoop.{OnsetsSoFar, onsets-none, onsets-stop, onsets-room, onsets-more, onsets-missing}
 use Rattle.playing.proofs.OnsetLoop.{onsets-done, take-refused}
 use Rattle.sheet.specs.Held.{timingTable}
-use Rattle.playing.specs.Steps.{timingIn}
+use Rattle.playing.specs.Contracts.{timingIn}
 use Rattle.playing.proofs.read_onsets.Statement.{statement}
 use Rattle.playing.proofs.read_onsets.Tie as tie
 

@@ -3,7 +3,7 @@
 use mathlib.Core.Path.{sym, ap, subst, _∙_}
 use native.Mathlib.Omega.{arith}
 use Rattle.pricing.specs.Pricing.{pricedOf}
-use Rattle.pricing.specs.Steps.{BarsWalked}
+use Rattle.pricing.specs.Contracts.{BarsWalked}
 use Rattle.pricing.proofs.BarSteps.{not-read, rules-left, onsets-left, tree-answer, total-fits}
 use borrow.Author.Needs.{needs}
 use Rattle.pricing.proofs.price_of.Statement.{statement}

@@ -10,7 +10,7 @@ use Rattle.sheet.specs.Sheet.{Sheet}
 use Rattle.sheet.specs.Accepted.{SheetHeld}
 use Rattle.expansions.specs.Items.{interval}
 use Rattle.pricing.specs.Pricing.{pricedOf}
-use Rattle.pricing.specs.Steps.{RowEntry, BarsWalked, unread}
+use Rattle.pricing.specs.Contracts.{ForestPre, BarsWalked, unread}
 use Rattle.pricing.proofs.BarSteps.{counts-small, too-long, bars-entry, bars-walked, multiplier-is}
 use Rattle.pricing.proofs.price_sheet.Statement.{statement}
 use Rattle.pricing.proofs.price_sheet.Tie as tie
@@ -31,7 +31,7 @@ abbrev Held : tie.After-starts → Sheet → Type 0
 Held c s = SheetHeld s (start-of c .args .t1) (start-of c .args .playing)
 
 entry : (c : tie.After-starts) (s : Sheet) → Held c s → let at-units = units-place c in
-    RowEntry s (at-units .before .pack-rules .result) (start-of c .args .t1 .children) (at-units .pack-units .result)
+    ForestPre s (at-units .before .pack-rules .result) (start-of c .args .t1 .children) (at-units .pack-units .result)
     (start-of c .args .list .now) (kids-of c) (interval 0 20160) unread
 entry c s h =
     let at-units = units-place c in
@@ -41,9 +41,9 @@ entry c s h =
 
 -- ---- where they are read
 
-walked : (c : tie.After-read-row) (s : Sheet) → Held (c .before) s
-    → BarsWalked s (start-of (c .before) .args .list .now) (c .read-row .result)
-walked c s h = bars-walked h _ (kids-of (c .before)) refl (c .read-row .result) (c .read-row .ensures s (entry (c .before) s h))
+walked : (c : tie.After-read-forest) (s : Sheet) → Held (c .before) s
+    → BarsWalked s (start-of (c .before) .args .list .now) (c .read-forest .result)
+walked c s h = bars-walked h _ (kids-of (c .before)) refl (c .read-forest .result) (c .read-forest .ensures s (entry (c .before) s h))
 
 -- ---- the needs
 
@@ -89,13 +89,13 @@ array-share-prefix-starts c =
     let at-start = at-units .before .before .before .before .before .before in
     omega (arith, counts-small (at-start .pre .1) .1)
 
-slice-aggregate-read-row : tie.Need-slice-aggregate-read-row
-slice-aggregate-read-row c =
+slice-aggregate-read-forest : tie.Need-slice-aggregate-read-forest
+slice-aggregate-read-forest c =
     let at-start = start-of c in
     sym (length-take-le (at-start .args .playing .bars) (replicate 64 (at-start .args .t1 .start)) (counts-small (at-start .pre .1) .1))
 
-read-row-requires : tie.Need-read-row-requires
-read-row-requires c κs =
+read-forest-requires : tie.Need-read-forest-requires
+read-forest-requires c κs =
     let at-start = start-of c in
     (at-start .pre .0, entry c _ (at-start .pre .1))
 
@@ -121,7 +121,7 @@ price-sheet-spec =
     pack-rules-requires
     pack-units-requires
     array-share-prefix-starts
-    slice-aggregate-read-row
-    read-row-requires
+    slice-aggregate-read-forest
+    read-forest-requires
     price-of-requires
     returns-2)

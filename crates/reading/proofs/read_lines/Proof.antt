@@ -11,8 +11,8 @@ use Rattle.hextext.specs.Laws.{line-within, line-size-pos}
 use Rattle.sheet.specs.declared.line.Line.{Line}
 use Rattle.sheet.specs.Reading.{headOf, headRefusal, nothing, inRules, readLines}
 use Rattle.sheet.specs.Held.{readingOf}
-use Rattle.grammar.specs.Steps.{RulesRead, RulesDone}
-use Rattle.playing.specs.Steps.{TakeRead}
+use Rattle.grammar.specs.Contracts.{RulesRead, RulesDone}
+use Rattle.playing.specs.Contracts.{TakeRead}
 use Rattle.reading.proofs.FirstLine.{first-other, first-refused, first-good, first-on}
 use Rattle.reading.proofs.read_lines.Statement.{statement}
 use Rattle.reading.proofs.read_lines.Tie as tie

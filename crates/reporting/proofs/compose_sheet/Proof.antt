@@ -1,7 +1,7 @@
 -- `compose_sheet` meets its contract: the line of a refusal of finding, or of 13; else the score lines of the tree found, whose price is the
 -- answer of finding. Assumes nothing.
 use mathlib.Core.Path.{refl}
-use Rattle.reporting.proofs.ReportSteps.{refusal-reported, nodes-within, list-size, priced-entry, short-reported, score-reported}
+use Rattle.reporting.proofs.ReportSteps.{refusal-reported, nodes-within, list-size, priced-pre, short-reported, score-reported}
 use borrow.Author.Needs.{needs}
 use Rattle.reporting.proofs.compose_sheet.Statement.{statement}
 use Rattle.reporting.proofs.compose_sheet.Tie as tie
@@ -48,7 +48,7 @@ write-priced-requires c κs =
     let start = c .before .before .before .before .before .before .before .before .before .before .before .before .before in
     let s = start .pre .0 in
     let h = start .pre .1 in
-    (s, priced-entry h (find-sheet .ensures s h) (if1 .left))
+    (s, priced-pre h (find-sheet .ensures s h) (if1 .left))
 
 refuse-requires-2 : tie.Need-refuse-requires-2
 refuse-requires-2 c κs = search needs
@@ -73,7 +73,7 @@ returns-2 c =
     let start = further .before .before .before .before .before .before .before in
     λ s h.
     let f = find-sheet .ensures s h in
-    let entry = priced-entry h f (if1 .left) in
+    let entry = priced-pre h f (if1 .left) in
     short-reported h f (if1 .left) (start .args .score .now) _ (write-priced .result) (write-priced .ensures s entry)
     (if2 .taken) _ _ (refuse2 .ensures .1) _ (refuse2 .ensures .0)
 
@@ -96,7 +96,7 @@ returns-3 c =
     let start = further .before .before .before .before .before in
     λ s h.
     let f = find-sheet .ensures s h in
-    let entry = priced-entry h f (if1 .left) in
+    let entry = priced-pre h f (if1 .left) in
     score-reported h f (if1 .left) (start .args .score .now) _ (write-priced .result) (write-priced .ensures s entry)
     (if2 .left) _ _ refl
 

@@ -1,5 +1,5 @@
 -- `write_priced` meets its contract: the price's refusal; 13 where the slice is shorter than the text; the text. Assumes nothing.
-use Rattle.score.proofs.WriteSteps.{price-given, sheet-refused, few-leaves, short, text-entry, sheet-written}
+use Rattle.score.proofs.WriteSteps.{price-given, sheet-refused, few-leaves, short, text-pre, sheet-written}
 use borrow.Author.Needs.{needs}
 use Rattle.score.proofs.write_priced.Statement.{statement}
 use Rattle.score.proofs.write_priced.Tie as tie
@@ -57,7 +57,7 @@ write-text-requires c κs =
     let s = start .pre .0 in
     let h = start .pre .1 in
     let t = price-given s (start .args .list .now) _ (h .own) (if1 .left) in
-    (s, text-entry (h .held) t _ (pack-rules .ensures) _ (count-leaves .ensures) _ _ (text-size .ensures) (if2 .left))
+    (s, text-pre (h .held) t _ (pack-rules .ensures) _ (count-leaves .ensures) _ _ (text-size .ensures) (if2 .left))
 
 same-length : tie.Need-same-length
 same-length c = search needs
@@ -74,7 +74,7 @@ returns-3 c =
     λ s h.
     let t = price-given s (start .args .list .now) _ (h .own) (if1 .left) in
     sheet-written (h .held) t _ (pack-rules .ensures) _ (count-leaves .ensures) _ _ _ _ (text-size .ensures) (if2 .left)
-    (write-text .ensures s (text-entry (h .held) t _ (pack-rules .ensures) _ (count-leaves .ensures) _ _ (text-size .ensures) (if2 .left)))
+    (write-text .ensures s (text-pre (h .held) t _ (pack-rules .ensures) _ (count-leaves .ensures) _ _ (text-size .ensures) (if2 .left)))
 
 pub write-priced-spec : {M : Type 1} → statement M
 write-priced-spec =

@@ -7,7 +7,7 @@ use borrow.Author.Needs.{needs}
 use lib.ListN.{length}
 use Rattle.sheet.specs.Sheet.{Sheet}
 use Rattle.rows.specs.VectorLaws.{only-low}
-use Rattle.search.specs.Search.{BackEntry, BeforeAs}
+use Rattle.search.specs.Contracts.{BackwardPre, SuffixStep}
 use Rattle.search.proofs.PassSteps.{length-stored}
 use Rattle.search.proofs.BackSteps.{Backward, back-again, back-stored, backward-none, backward-entry, backward-room, backward-more}
 use Rattle.search.proofs.backward.Statement.{statement}
@@ -16,7 +16,7 @@ use Rattle.search.proofs.backward.Tie as tie
 abbrev Inv-loop : tie.InvT-loop
 Inv-loop roots vectors₀ from end v₀ b₀ vectors v b =
     (b ≤ end) × (from ≤ b) × (length vectors ≡ length vectors₀)
-    × ((s : Sheet) → BackEntry s roots vectors₀ from end → Backward s vectors end b v)
+    × ((s : Sheet) → BackwardPre s roots vectors₀ from end → Backward s vectors end b v)
 
 abbrev μ-loop : tie.MeasureT-loop
 μ-loop roots vectors₀ from end v₀ b₀ vectors v b = b
@@ -38,31 +38,31 @@ same c = back-stored (start-of c .pre .1) (c .before .before .only-at .result) (
 abbrev At-loop : Type 0
 At-loop = tie.At-loop Inv-loop μ-loop
 
-abbrev At-before : Type 0
-At-before = tie.After-before2 Inv-loop μ-loop
+abbrev At-step : Type 0
+At-step = tie.After-suffix-step Inv-loop μ-loop
 
 abbrev loop-store : At-loop → At-store
 loop-store c = c .before .before .before
 
-abbrev before-loop : At-before → At-loop
-before-loop c = c .before .before
+abbrev step-loop : At-step → At-loop
+step-loop c = c .before .before
 
 -- what is asked for, of a sheet s, with the table as it is where the loop begins
 abbrev Asked : At-loop → Sheet → Type 0
 Asked c s =
     let a = start-of (loop-store c) .args in
-    BackEntry s (a .roots .now) (loop-store c .store .last .0) (a .from) (a .end)
+    BackwardPre s (a .roots .now) (loop-store c .store .last .0) (a .from) (a .end)
 
 -- the sheet that the function is given
 given : (c : At-loop) → Asked c (start-of (loop-store c) .pre .0)
 given c = back-again (start-of (loop-store c) .pre .1) _ (same (loop-store c))
 
 -- the vector before bar b - 1
-told : (c : At-before) (s : Sheet) → Asked (before-loop c) s → let loop = before-loop c .loop in
-    BeforeAs (start-of (loop-store (before-loop c)) .args .roots .now) (loop .b - 1) (loop .v) (c .before2 .result)
+told : (c : At-step) (s : Sheet) → Asked (step-loop c) s → let loop = step-loop c .loop in
+    SuffixStep (start-of (loop-store (step-loop c)) .args .roots .now) (loop .b - 1) (loop .v) (c .suffix-step .result)
 told c s h =
-    let loop = before-loop c .loop in
-    c .before2 .ensures s (start-of (loop-store (before-loop c)) .args .end)
+    let loop = step-loop c .loop in
+    c .suffix-step .ensures s (start-of (loop-store (step-loop c)) .args .end)
     (backward-entry h (c .before .loop-test .taken) (loop .inv .0) (loop .inv .3 s h))
 
 -- ---- the needs
@@ -96,8 +96,8 @@ loop-holds c =
 sub-b : tie.Need-sub-b Inv-loop μ-loop
 sub-b c = search needs
 
-before-requires : tie.Need-before-requires Inv-loop μ-loop
-before-requires c κs =
+suffix-step-requires : tie.Need-suffix-step-requires Inv-loop μ-loop
+suffix-step-requires c κs =
     let at-loop = c .before in
     let at-start = start-of (loop-store at-loop) in
     let h = given at-loop in
@@ -106,13 +106,13 @@ before-requires c κs =
 
 mul-store-2 : tie.Need-mul-store-2 Inv-loop μ-loop
 mul-store-2 c =
-    let at-loop = before-loop (c .before) in
+    let at-loop = step-loop (c .before) in
     record { fits = omega (arith, given at-loop .few, at-loop .loop .inv .0) }
 
 store-requires-2 : tie.Need-store-requires-2 Inv-loop μ-loop
 store-requires-2 c κs =
     let at-before = c .before in
-    let at-loop = before-loop at-before in
+    let at-loop = step-loop at-before in
     let h = given at-loop in
     let room = backward-room h (at-before .before .loop-test .taken) (at-loop .loop .inv .0) (at-loop .loop .inv .3 _ h) in
     (room, omega arith, λ x. omega (arith, told at-before _ h .low x))
@@ -125,13 +125,13 @@ loop-again : tie.Need-loop-again Inv-loop μ-loop
 loop-again c =
     let at-store = c .before .before in
     let at-before = at-store .before .before in
-    let loop = before-loop at-before .loop in
-    let h = given (before-loop at-before) in
+    let loop = step-loop at-before .loop in
+    let h = given (step-loop at-before) in
     let more = at-before .before .loop-test .taken in
     let room = backward-room h more (loop .inv .0) (loop .inv .3 _ h) in (
       omega (arith, loop .inv .0),
       omega (arith, more),
-      length-stored (loop .vectors) (at-before .before2 .result) (4 * (loop .b - 1)) room (at-store .store2 .ensures) ∙ loop .inv .2,
+      length-stored (loop .vectors) (at-before .suffix-step .result) (4 * (loop .b - 1)) room (at-store .store2 .ensures) ∙ loop .inv .2,
       λ s e. backward-more e more (loop .inv .0) (loop .inv .3 s e) (told at-before s e) (at-store .store2 .ensures),
     )
 
@@ -158,7 +158,7 @@ backward-spec =
     store-requires
     loop-holds
     sub-b
-    before-requires
+    suffix-step-requires
     mul-store-2
     store-requires-2
     loop-less

@@ -1,5 +1,5 @@
 -- `build_bars` meets its contract. The invariant of the loop: the bars before bar b are built, and some least list passes the carry state
--- behind them (`InBars`). A turn builds bar b with the vector behind it. Assumes nothing.
+-- behind them (`InBars`). A turn builds bar b with the suffix costs behind it. Assumes nothing.
 use Prim.Native.Nat.{_-_, _*_, _≤_, _<_}
 use mathlib.Core.Path.{_≡_, sym, ap, _∙_}
 use native.Mathlib.Omega.{arith}
@@ -8,8 +8,8 @@ use lib.ListN.{length}
 use Rattle.slices.specs.Over.{length-over-from}
 use Rattle.sheet.specs.Sheet.{Sheet}
 use Rattle.sheet.specs.Held.{units as unitsOf}
-use Rattle.building.specs.Rebuilding.{BuildEntry}
-use Rattle.search.specs.Search.{BarsBuildEntry}
+use Rattle.building.specs.Contracts.{BuildPre}
+use Rattle.search.specs.Contracts.{BarsBuildPre}
 use Rattle.search.proofs.EnterSteps.{few-bars, bar-enter}
 use Rattle.search.proofs.BarSteps.{InBars, in-bars-none, bar-carry, root-room, vector-room, bar-build, in-bars-more, in-bars-all}
 use Rattle.search.proofs.build_bars.Statement.{statement}
@@ -17,7 +17,7 @@ use Rattle.search.proofs.build_bars.Tie as tie
 
 abbrev Inv-loop : tie.InvT-loop
 Inv-loop plan units rows₀ tree₀ vectors roots start from end n slots next₀ carry₀ b₀ rows tree next carry b =
-    (b ≤ end) × (from ≤ b) × ((s : Sheet) → BarsBuildEntry s plan units rows₀ tree₀ vectors roots start from end n
+    (b ≤ end) × (from ≤ b) × ((s : Sheet) → BarsBuildPre s plan units rows₀ tree₀ vectors roots start from end n
     → InBars s rows tree₀ tree end b carry next)
 
 abbrev μ-loop : tie.MeasureT-loop
@@ -50,7 +50,7 @@ vector-loop c = enter-loop (vector-enter c)
 abbrev Asked : At-loop → Sheet → Type 0
 Asked c s =
     let a = start-of c .args in
-    BarsBuildEntry s (a .plan .now) (a .units .now) (a .rows .now) (a .tree .now) (a .vectors .now) (a .roots .now) (a .start) (a .from)
+    BarsBuildPre s (a .plan .now) (a .units .now) (a .rows .now) (a .tree .now) (a .vectors .now) (a .roots .now) (a .start) (a .from)
     (a .end) (a .n)
 
 -- ---- where bar b is entered
@@ -59,7 +59,7 @@ Asked c s =
 bar-few : (c : At-enter) → enter-loop c .loop .b < 64
 bar-few c =
     let h = start-of (enter-loop c) .pre .1 in
-    omega (arith, few-bars (h .ripe .entry), h .ripe .end-in, c .before .loop-test .taken)
+    omega (arith, few-bars (h .committable .entry), h .committable .end-in, c .before .loop-test .taken)
 
 -- one of four carry states is carried into it
 carry-few : (c : At-enter) → enter-loop c .loop .carry < 4
@@ -68,18 +68,18 @@ carry-few c =
     let h = start-of (enter-loop c) .pre .1 in
     bar-carry h (loop .inv .2 _ h) (loop .inv .1) (c .before .loop-test .taken)
 
--- ---- where its row and the vector behind it are loaded: it may be built
+-- ---- where its row and the suffix costs behind it are loaded: it may be built
 
 entry : (c : At-vector) (s : Sheet) → Asked (vector-loop c) s → let a = start-of (vector-loop c) .args in
     let loop = vector-loop c .loop in
     let bar = vector-enter c .enter .result in
-    BuildEntry s (a .plan .now) (a .units .now) (loop .rows) (loop .tree) bar (a .start) 0 (unitsOf (20160 * loop .b)) (bar .first)
+    BuildPre s (a .plan .now) (a .units .now) (loop .rows) (loop .tree) bar (a .start) 0 (unitsOf (20160 * loop .b)) (bar .first)
     (loop .carry) (c .before .load .result) (c .load2 .result) (loop .next)
 entry c s h =
     let loop = vector-loop c .loop in
     let at-enter = vector-enter c in
     let below = at-enter .before .loop-test .taken in
-    let is-bar = at-enter .enter .ensures s (bar-enter (h .ripe .entry) (loop .b) (omega (arith, below, h .ripe .end-in))) in
+    let is-bar = at-enter .enter .ensures s (bar-enter (h .committable .entry) (loop .b) (omega (arith, below, h .committable .end-in))) in
     bar-build h (loop .inv .2 s h) (loop .inv .1) below (c .before .load .ensures) (c .load2 .ensures) is-bar
 
 -- ---- the needs
@@ -87,14 +87,14 @@ entry c s h =
 loop-holds : tie.Need-loop-holds Inv-loop μ-loop
 loop-holds c =
     let at-start = c .before .before .before .before in
-    (at-start .pre .1 .ripe .rising, omega arith, λ s h. in-bars-none h)
+    (at-start .pre .1 .committable .rising, omega arith, λ s h. in-bars-none h)
 
 enter-requires : tie.Need-enter-requires Inv-loop μ-loop
 enter-requires c κs =
     let at-loop = c .before in
     let at-start = start-of at-loop in
     let h = at-start .pre .1 in
-    (at-start .pre .0, bar-enter (h .ripe .entry) (at-loop .loop .b) (omega (arith, c .loop-test .taken, h .ripe .end-in)))
+    (at-start .pre .0, bar-enter (h .committable .entry) (at-loop .loop .b) (omega (arith, c .loop-test .taken, h .committable .end-in)))
 
 mul-load : tie.Need-mul-load Inv-loop μ-loop
 mul-load c = record { fits = omega (arith, bar-few c) }
@@ -157,7 +157,7 @@ same-length : tie.Need-same-length Inv-loop μ-loop
 same-length c =
     let at-loop = c .before in
     let h = start-of at-loop .pre .1 in
-    at-loop .loop .inv .2 _ h .sound .size ∙ sym (h .ripe .entry .sound .size)
+    at-loop .loop .inv .2 _ h .sound .size ∙ sym (h .committable .entry .sound .size)
 
 same-length-2 : tie.Need-same-length-2 Inv-loop μ-loop
 same-length-2 c =

@@ -1,20 +1,20 @@
--- `clear` meets its contract. The invariant of the loop: the cells before i are 0, and the others are kept (`Table`). Assumes nothing.
+-- `clear` meets its contract. The invariant of the loop: the cells before i are 0, and the others are kept (`Filled`). Assumes nothing.
 use borrow.Author.Needs.{needs}
 use Prim.Native.Nat.{_-_, _≤_}
 use mathlib.Core.Path.{_≡_, refl}
 use native.Mathlib.Omega.{arith}
-use Rattle.slices.specs.Table.{Table, table-none, table-more}
+use Rattle.slices.specs.Filled.{Filled, filled-none, filled-more}
 use Rattle.search.proofs.clear.Statement.{statement}
 use Rattle.search.proofs.clear.Tie as tie
 
 abbrev Inv-loop : tie.InvT-loop
-Inv-loop cells₀ n i₀ cells i = (i ≤ n) × Table (λ _. 0) cells₀ cells i
+Inv-loop cells₀ n i₀ cells i = (i ≤ n) × Filled (λ _. 0) cells₀ cells i
 
 abbrev μ-loop : tie.MeasureT-loop
 μ-loop cells₀ n i₀ cells i = n - i
 
 loop-holds : tie.Need-loop-holds Inv-loop μ-loop
-loop-holds c = (omega arith, table-none (λ _. 0) _)
+loop-holds c = (omega arith, filled-none (λ _. 0) _)
 
 mul-cells : tie.Need-mul-cells Inv-loop μ-loop
 mul-cells c = search needs
@@ -37,7 +37,7 @@ loop-again c =
     let loop-test = c .loop-test in
     let loop = c .before .loop in
     let start = c .before .before in
-    (omega (arith, loop-test .taken), table-more (loop .inv .1) (omega (arith, start .pre, loop-test .taken)) refl)
+    (omega (arith, loop-test .taken), filled-more (loop .inv .1) (omega (arith, start .pre, loop-test .taken)) refl)
 
 same-length : tie.Need-same-length Inv-loop μ-loop
 same-length c =

@@ -5,7 +5,7 @@ use mathlib.Core.Path.{_≡_, sym, ap, _∙_}
 use native.Mathlib.Omega.{arith}
 use lib.ListN.{length, take}
 use Rattle.slices.specs.Over.{over, over-nil, length-over}
-use Rattle.search.proofs.SettleSteps.{copied-more}
+use Rattle.search.proofs.CommitSteps.{copied-more}
 use Rattle.search.proofs.copy.Statement.{statement}
 use Rattle.search.proofs.copy.Tie as tie
 

@@ -1,14 +1,14 @@
 -- `forward` meets its contract. The invariant of the loop: the rows of the bars before bar b are stored, v is the vector before it, and the
--- bars before bar `done` are settled (`Going`). A turn fills bar b ahead, stores its rows and takes v over it. Where nothing is carried
--- over its end, the bars up to there are settled. What is known at each place is in `Places`. Assumes nothing.
+-- bars before bar `done` are committed (`Going`). A turn fills bar b ahead, stores its rows and takes v over it. Where nothing is carried
+-- over its end, the bars up to there are committed. What is known at each place is in `Places`. Assumes nothing.
 mod Places
 use mathlib.Core.Path.{refl, sym, _∙_}
 use native.Mathlib.Omega.{arith}
 use borrow.Author.Needs.{needs}
 use Rattle.search.proofs.EnterSteps.{few-bars, bar-enter}
-use Rattle.search.proofs.SettleSteps.{forwarded-low, going-none, going-fill, going-settled, going-none-found, going-found}
-use Rattle.search.proofs.forward.Proof.Places.{Inv-loop, μ-loop, start-of, fill-loop, pass-fill, pass-loop, closed-pass}
-use Rattle.search.proofs.forward.Proof.Places.{is-bar, pass-entry, more, closed, settle-entry, all-passed, last-entry}
+use Rattle.search.proofs.CommitSteps.{forwarded-low, going-none, going-fill, going-committed, going-none-found, going-found}
+use Rattle.search.proofs.forward.Proof.Places.{Inv-loop, μ-loop, start-of, fill-loop, pass-fill, pass-loop, cut-pass}
+use Rattle.search.proofs.forward.Proof.Places.{is-bar, pass-entry, more, cut-vector, commit-entry, all-passed, last-entry}
 use Rattle.search.proofs.forward.Statement.{statement}
 use Rattle.search.proofs.forward.Tie as tie
 
@@ -45,34 +45,34 @@ add-b c =
     let h = start-of (fill-loop at-fill) .pre .1 in
     record { fits = omega (arith, few-bars (h .entry), at-fill .before .before .before .loop-test .taken) }
 
-closed-requires : tie.Need-closed-requires Inv-loop μ-loop
-closed-requires c κs =
+is-cut-point-requires : tie.Need-is-cut-point-requires Inv-loop μ-loop
+is-cut-point-requires c κs =
     let at-pass = c .before .before .before .before in
     let at-start = start-of (pass-loop at-pass) in
     let h = at-start .pre .1 in
     (forwarded-low (more at-pass _ h .forwarded), (at-start .pre .0, h .entry .prepared))
 
-settle-requires : tie.Need-settle-requires Inv-loop μ-loop
-settle-requires c κs =
-    let at-closed = c .before .before .before .before in
-    let at-start = start-of (pass-loop (closed-pass at-closed)) in
-    (at-start .pre .0, settle-entry at-closed _ (at-start .pre .1))
+commit-requires : tie.Need-commit-requires Inv-loop μ-loop
+commit-requires c κs =
+    let at-cut = c .before .before .before .before in
+    let at-start = start-of (pass-loop (cut-pass at-cut)) in
+    (at-start .pre .0, commit-entry at-cut _ (at-start .pre .1))
 
 loop-less : tie.Need-loop-less Inv-loop μ-loop
 loop-less c = search needs
 
--- the bars up to bar b + 1 are settled
+-- the bars up to bar b + 1 are committed
 loop-again : tie.Need-loop-again Inv-loop μ-loop
 loop-again c =
-    let at-settle = c .before .before .before .before .before .before in
-    let at-closed = at-settle .before .before .before .before .before in
-    let at-pass = closed-pass at-closed in
+    let at-commit = c .before .before .before .before .before .before in
+    let at-cut = at-commit .before .before .before .before .before in
+    let at-pass = cut-pass at-cut in
     let loop = pass-loop at-pass .loop in (
       omega (arith, pass-fill at-pass .before .before .before .loop-test .taken),
       at-pass .pass .kept .1 .1 .1 .0 ∙ loop .inv .1,
-      at-settle .settle .kept .1 .1 .1 .1 .0 ∙ loop .inv .2,
-      at-settle .settle .kept .1 .1 .1 .0 ∙ loop .inv .3,
-      λ s h. going-settled h (more at-pass s h) (closed at-closed s h) (at-settle .settle .ensures s (settle-entry at-closed s h)),
+      at-commit .commit .kept .1 .1 .1 .1 .0 ∙ loop .inv .2,
+      at-commit .commit .kept .1 .1 .1 .0 ∙ loop .inv .3,
+      λ s h. going-committed h (more at-pass s h) (cut-vector at-cut s h) (at-commit .commit .ensures s (commit-entry at-cut s h)),
     )
 
 loop-less-2 : tie.Need-loop-less-2 Inv-loop μ-loop
@@ -114,45 +114,45 @@ returns c =
     let at-last = c .before in
     λ s h. going-none-found h (at-last .before .loop .inv .4 s h) (all-passed at-last) (c .if2 .taken)
 
-settle-requires-2 : tie.Need-settle-requires-2 Inv-loop μ-loop
-settle-requires-2 c κs =
+commit-requires-2 : tie.Need-commit-requires-2 Inv-loop μ-loop
+commit-requires-2 c κs =
     let at-found = c .before .before .before .before in
     let at-start = start-of (at-found .before .before) in
     (at-start .pre .0, last-entry at-found _ (at-start .pre .1))
 
 same-length-5 : tie.Need-same-length-5 Inv-loop μ-loop
 same-length-5 c =
-    let at-settle = c .before .before .before .before .before .before in
-    let at-loop = at-settle .before .before .before .before .before .before .before in
+    let at-commit = c .before .before .before .before .before .before in
+    let at-loop = at-commit .before .before .before .before .before .before .before in
     let h = start-of at-loop .pre .1 in
-    at-settle .settle2 .kept .1 .1 .0 ∙ at-loop .loop .inv .4 _ h .forwarded .sound .size ∙ sym (h .entry .sound .size)
+    at-commit .commit2 .kept .1 .1 .0 ∙ at-loop .loop .inv .4 _ h .forwarded .sound .size ∙ sym (h .entry .sound .size)
 
 same-length-6 : tie.Need-same-length-6 Inv-loop μ-loop
 same-length-6 c =
-    let at-settle = c .before .before .before .before .before .before in
-    let at-loop = at-settle .before .before .before .before .before .before .before in
-    at-settle .settle2 .kept .1 .1 .1 .0 ∙ at-loop .loop .inv .3
+    let at-commit = c .before .before .before .before .before .before in
+    let at-loop = at-commit .before .before .before .before .before .before .before in
+    at-commit .commit2 .kept .1 .1 .1 .0 ∙ at-loop .loop .inv .3
 
 same-length-7 : tie.Need-same-length-7 Inv-loop μ-loop
 same-length-7 c =
-    let at-settle = c .before .before .before .before .before .before in
-    let at-loop = at-settle .before .before .before .before .before .before .before in
+    let at-commit = c .before .before .before .before .before .before in
+    let at-loop = at-commit .before .before .before .before .before .before .before in
     at-loop .loop .inv .1
 
 same-length-8 : tie.Need-same-length-8 Inv-loop μ-loop
 same-length-8 c =
-    let at-settle = c .before .before .before .before .before .before in
-    let at-loop = at-settle .before .before .before .before .before .before .before in
-    at-settle .settle2 .kept .1 .1 .1 .1 .0 ∙ at-loop .loop .inv .2
+    let at-commit = c .before .before .before .before .before .before in
+    let at-loop = at-commit .before .before .before .before .before .before .before in
+    at-commit .commit2 .kept .1 .1 .1 .1 .0 ∙ at-loop .loop .inv .2
 
--- all bars are settled
+-- all bars are committed
 returns-2 : tie.Need-returns-2 Inv-loop μ-loop
 returns-2 c =
-    let at-settle = c .before .before .before .before .before .before in
-    let at-found = at-settle .before .before .before .before .before in
+    let at-commit = c .before .before .before .before .before .before in
+    let at-found = at-commit .before .before .before .before .before in
     let at-last = at-found .before in
     λ s h. going-found h (at-last .before .loop .inv .4 s h) (all-passed at-last) (omega (arith, at-found .if2 .left))
-    (at-settle .settle2 .ensures s (last-entry at-found s h))
+    (at-commit .commit2 .ensures s (last-entry at-found s h))
 
 pub forward-spec : {M : Type 1} → statement M
 forward-spec =
@@ -166,8 +166,8 @@ forward-spec =
     fill-bar-requires
     pass-requires
     add-b
-    closed-requires
-    settle-requires
+    is-cut-point-requires
+    commit-requires
     loop-less
     loop-again
     loop-less-2
@@ -178,7 +178,7 @@ forward-spec =
     same-length-3
     same-length-4
     returns
-    settle-requires-2
+    commit-requires-2
     same-length-5
     same-length-6
     same-length-7

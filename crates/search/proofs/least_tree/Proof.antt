@@ -8,7 +8,7 @@ use borrow.Author.Needs.{needs}
 use lib.ListN.{length, take}
 use lib.Seq.{length-take-le}
 use Rattle.sheet.specs.Sheet.{Sheet}
-use Rattle.search.specs.Search.{rowCells, RowCellsEntry, ParseEntry, SearchEntry}
+use Rattle.search.specs.Contracts.{rowCells, RowCellsPre, ParsePre, SearchPre}
 use Rattle.search.proofs.SearchSteps.{rules-held, onsets-few, cells-few, cells-fit, cells-all, bars-are, parse-entry, lent-length}
 use Rattle.search.proofs.SearchSteps.{searched}
 use Rattle.search.proofs.least_tree.Statement.{statement}
@@ -16,7 +16,7 @@ use Rattle.search.proofs.least_tree.Tie as tie
 
 -- a sheet of which the first least tree is asked for
 abbrev Asked : tie.Start → Sheet → Type 0
-Asked c s = let a = c .args in SearchEntry s (a .grammar) (a .playing) (a .tree .now) (a .work .now)
+Asked c s = let a = c .args in SearchPre s (a .grammar) (a .playing) (a .tree .now) (a .work .now)
 
 -- ---- where the onsets of the fullest bar are counted
 
@@ -28,7 +28,7 @@ start-of c = units-place c .before .before .before .before
 
 -- the cells of the rows may be counted
 counted : (c : tie.After-most-in-bar) (s : Sheet) → Asked (start-of c) s
-    → RowCellsEntry s (units-place c .before .prepare .result) (c .most-in-bar .result)
+    → RowCellsPre s (units-place c .before .prepare .result) (c .most-in-bar .result)
 counted c s h = record {
   prepared = units-place c .before .prepare .ensures s (h .held .good .rules) (h .held .grammar);
   onsets = h .held .good .onsets;
@@ -56,7 +56,7 @@ fit c s h = cells-fit h (cells-are c s h)
 -- so the tree may be searched in them
 entry : (c : tie.After-row-cells) (s : Sheet) → Asked (start-place c) s → let at-units = units-place (c .before) in
     let a = start-place c .args in
-    ParseEntry s (at-units .before .prepare .result) (at-units .pack-units .result) (take (cells-of c) (work-of c)) (a .tree .now)
+    ParsePre s (at-units .before .prepare .result) (at-units .pack-units .result) (take (cells-of c) (work-of c)) (a .tree .now)
     (a .grammar .start) (a .playing .bars)
 entry c s h =
     let units = units-place (c .before) .pack-units .ensures (s .playing) (h .held .good .onsets) (h .held .playing) in

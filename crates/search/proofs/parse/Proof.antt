@@ -6,7 +6,7 @@ use borrow.Author.Needs.{needs}
 use lib.ListN.{replicate}
 use Rattle.sheet.specs.Sheet.{Sheet}
 use Rattle.trees.specs.Room.{treeMost}
-use Rattle.search.specs.Search.{ForwardEntry, FoundIn, ParseEntry}
+use Rattle.search.specs.Contracts.{ForwardPre, FoundIn, ParsePre}
 use Rattle.search.proofs.SearchSteps.{parse-forward, found-fits, found-copied}
 use Rattle.search.proofs.parse.Statement.{statement}
 use Rattle.search.proofs.parse.Tie as tie
@@ -26,10 +26,10 @@ start-of c = clear-place c .before .before .before .before
 abbrev Asked : tie.After-vectors → Sheet → Type 0
 Asked c s =
     let a = start-of c .args in
-    ParseEntry s (a .plan .now) (a .units .now) (a .rows .now) (a .tree .now) (a .start) (a .count)
+    ParsePre s (a .plan .now) (a .units .now) (a .rows .now) (a .tree .now) (a .start) (a .count)
 
 entry : (c : tie.After-vectors) (s : Sheet) → Asked c s → let a = start-of c .args in
-    ForwardEntry s (a .plan .now) (a .units .now) (order-place c .by-arity .result) (clear-place c .clear .last .0) (replicate treeMost 0)
+    ForwardPre s (a .plan .now) (a .units .now) (order-place c .by-arity .result) (clear-place c .clear .last .0) (replicate treeMost 0)
     (replicate 1024 0) (replicate 260 0) (a .start) (a .count)
 entry c s h =
     parse-forward h refl (clear-place c .clear .ensures) (order-place c .by-arity .ensures s (h .prepared)) (omega arith) (omega arith)

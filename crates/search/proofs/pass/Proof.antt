@@ -6,7 +6,7 @@ use native.Mathlib.Omega.{arith}
 use borrow.Author.Needs.{needs}
 use lib.ListN.{length}
 use Rattle.sheet.specs.Sheet.{Sheet}
-use Rattle.search.specs.Search.{PassEntry, RootsTo, Rooted}
+use Rattle.search.specs.Contracts.{PassPre, RootsTo, Rooted}
 use Rattle.search.proofs.EnterSteps.{pass-few, pass-low, pass-again}
 use Rattle.search.proofs.PassSteps.{totals-low, Passing, passing-none, passing-all, passing-room, passing-stored, passing-row}
 use Rattle.search.proofs.PassSteps.{passing-more}
@@ -16,7 +16,7 @@ use Rattle.search.proofs.pass.Tie as tie
 abbrev Inv-loop : tie.InvT-loop
 Inv-loop plan units rows₀ roots₀ bar start v at o₀ c₀ rows roots o c =
     (c ≤ 4) × (length roots ≡ length roots₀)
-    × ((s : Sheet) → PassEntry s plan units rows₀ bar start v → RootsTo s roots₀ (bar .number) 0
+    × ((s : Sheet) → PassPre s plan units rows₀ bar start v → RootsTo s roots₀ (bar .number) 0
     → Passing s rows roots (bar .number) v c o)
 
 abbrev μ-loop : tie.MeasureT-loop
@@ -43,7 +43,7 @@ store-row c = c .before .before .before .before
 abbrev Asked : At-loop → Sheet → Type 0
 Asked c s =
     let a = start-of c .args in
-    PassEntry s (a .plan .now) (a .units .now) (a .rows .now) (a .bar) (a .start) (a .t7)
+    PassPre s (a .plan .now) (a .units .now) (a .rows .now) (a .bar) (a .start) (a .t7)
 
 abbrev Stored : At-loop → Sheet → Type 0
 Stored c s = RootsTo s (start-of c .args .roots .now) (start-of c .args .bar .number) 0

@@ -10,7 +10,7 @@ use Rattle.slices.specs.Over.{length-over-from}
 use Rattle.sheet.specs.Sheet.{Sheet}
 use Rattle.plan.specs.Plan.{SplitAt}
 use Rattle.rows.specs.Slots.{itemAt}
-use Rattle.building.specs.Rebuilding.{at, Chosen, BuiltAs, BuildEntry, PartsBuildEntry}
+use Rattle.building.specs.Contracts.{at, Chosen, BuiltAs, BuildPre, PartsBuildPre}
 use Rattle.building.proofs.BuildSteps.{build-room, build-low, build-length, build-here, late-placed, build-chosen, built-leaf}
 use Rattle.building.proofs.BuildSteps.{build-parts-entry, built-division, parts-shorter}
 use Rattle.building.proofs.build.Reads as build
@@ -42,7 +42,7 @@ module _ (t : ℕ) where
   abbrev Asked : build-lts.Start calls (build-at t) build.Post → Sheet → Type 0
   Asked c s =
       let a = c .args in
-      BuildEntry s (a .plan .now) (a .units .now) (a .rows .now) (a .tree .now) (a .bar) (a .q) (a .l) (a .left) (a .from) (a .c) (a .y)
+      BuildPre s (a .plan .now) (a .units .now) (a .rows .now) (a .tree .now) (a .bar) (a .q) (a .l) (a .left) (a .from) (a .c) (a .y)
       (a .v) (a .to)
 
   -- ---- where the rule is known
@@ -68,7 +68,7 @@ module _ (t : ℕ) where
       → let a = start-of (c .before) .args in
       let rule = rule-of (c .before) in
       let p = c .before .split-at .result in
-      PartsBuildEntry s (a .plan .now) (a .units .now) (a .rows .now) (set (a .tree .now) (a .to) rule) (a .bar) rule (p .arity) (p .part)
+      PartsBuildPre s (a .plan .now) (a .units .now) (a .rows .now) (set (a .tree .now) (a .to) rule) (a .bar) rule (p .arity) (p .part)
       (a .left) (a .from) (a .c) (a .v) (a .to + 1)
   entry c s h =
       let at-split = c .before in

@@ -1,5 +1,5 @@
 -- `build_parts`: the invariant of the loop is that the first j parts are built (`InParts`), and that `lo` is the left bound of the next.
--- A part is built with the vector behind it, which `behind` gives of the parts that are left.
+-- A part is built with the suffix costs behind it, which `suffix_costs` gives of the parts that are left.
 use Prim.Native.Nat.{ℕ, _+_, _-_, _*_, _≤_}
 use mathlib.Core.Path.{_≡_, sym, ap, _∙_}
 use native.Mathlib.Omega.{arith}
@@ -13,13 +13,13 @@ use Rattle.expansions.specs.Items.{firstAt}
 use Rattle.rows.specs.Slots.{itemAt}
 use Rattle.rows.specs.Rows.{Entry, Row, partsAt}
 use Rattle.rows.specs.PartLaws.{rule-below, parts-length, parts-eight}
-use Rattle.building.specs.Rebuilding.{PartsBuildEntry, BehindEntry, Behind, BuildEntry}
+use Rattle.building.specs.Contracts.{PartsBuildPre, SuffixPre, SuffixCosts, BuildPre}
 use Rattle.building.proofs.PartSteps.{InParts, in-parts-none, part-near, part-entry, part-behind, part-build, in-parts-more}
 use Rattle.building.proofs.PartSteps.{in-parts-all}
 use Rattle.building.proofs.build.Reads as build
 use Rattle.building.proofs.build_parts.Reads as build-parts
 use Rattle.building.proofs.+build+build_parts.Lts-build_parts as build-parts-lts
-use Rattle.building.proofs.behind.Reads as behind-reads
+use Rattle.building.proofs.suffix_costs.Reads as suffix-reads
 use Rattle.plan.proofs.child.Reads as child-reads
 use Rattle.plan.proofs.length.Reads as length-reads
 use Rattle.rows.proofs.slots.first_behind.Reads as first-behind-reads
@@ -30,7 +30,7 @@ use Rattle.building.proofs.+build+build_parts.Proof.Measures.{build-bel
 abbrev pub Inv-loop : build-parts-lts.InvT-loop
 Inv-loop plan units rows₀ tree₀ bar r k l from c v to len lo₀ at₀ next₀ carry₀ j₀ rows tree lo at next carry j =
     (lo ≡ lo₀ + j * len) × (j ≤ k)
-    × ((s : Sheet) (e : PartsBuildEntry s plan units rows₀ tree₀ bar r k l (unitsOf lo₀) from c v to)
+    × ((s : Sheet) (e : PartsBuildPre s plan units rows₀ tree₀ bar r k l (unitsOf lo₀) from c v to)
     → InParts s rows tree₀ tree l (unitsOf lo₀) (e .parts .divides .parts) v c to j lo at carry next)
 
 abbrev pub μ-loop : build-parts-lts.MeasureT-loop
@@ -50,8 +50,8 @@ module _ (t : ℕ) where
     cells-reads.Learnt,
     totals-reads.Asked,
     totals-reads.Learnt,
-    behind-reads.Asked,
-    behind-reads.Learnt,
+    suffix-reads.Asked,
+    suffix-reads.Learnt,
     build-below t,
     build.Post,
   )
@@ -68,7 +68,7 @@ module _ (t : ℕ) where
   At-totals = build-parts-lts.After-totals calls (build-parts-at t) build-parts.Post Inv-loop μ-loop
 
   abbrev At-behind : Type 0
-  At-behind = build-parts-lts.After-behind calls (build-parts-at t) build-parts.Post Inv-loop μ-loop
+  At-behind = build-parts-lts.After-suffix-costs calls (build-parts-at t) build-parts.Post Inv-loop μ-loop
 
   abbrev start-of : At-child → At-start
   start-of c = c .before .before .before .before .before .before
@@ -83,7 +83,7 @@ module _ (t : ℕ) where
   abbrev Asked : At-start → Sheet → Type 0
   Asked c s =
       let a = c .args in
-      PartsBuildEntry s (a .plan .now) (a .units .now) (a .rows .now) (a .tree .now) (a .bar) (a .r) (a .k) (a .l) (a .left) (a .from)
+      PartsBuildPre s (a .plan .now) (a .units .now) (a .rows .now) (a .tree .now) (a .bar) (a .r) (a .k) (a .l) (a .left) (a .from)
       (a .c) (a .v) (a .to)
 
   -- ---- where part j is known
@@ -124,34 +124,34 @@ module _ (t : ℕ) where
       (cells .result)
   row c s h = c .before .before .before .cells .ensures s (entry (child-place c) s h)
 
-  -- the vector behind it may be asked for
-  abbrev behind-entry : (c : At-totals) (s : Sheet) → Asked (start-of (child-place c)) s → let at-child = child-place c in
+  -- the suffix costs behind it may be asked for
+  abbrev suffix-costs-entry : (c : At-totals) (s : Sheet) → Asked (start-of (child-place c)) s → let at-child = child-place c in
       let a = start-of at-child .args in
       let loop = at-child .before .before .loop in
-      BehindEntry s (a .plan .now) (a .units .now) (c .before .before .before .cells .last .1 .1 .0) (a .bar) (a .r) (loop .j + 1) (a .k)
+      SuffixPre s (a .plan .now) (a .units .now) (c .before .before .before .cells .last .1 .1 .0) (a .bar) (a .r) (loop .j + 1) (a .k)
       (a .l) (unitsOf (end-of at-child)) (next-first c) 0 (c .totals .result) (a .v)
-  behind-entry c s h =
+  suffix-costs-entry c s h =
       let at-child = child-place c in
       let at-loop = at-child .before .before in
       part-behind h (at-loop .loop .inv .2 s h) (at-child .before .loop-test .taken) (at-loop .before .length .ensures)
       (at-loop .loop .inv .0) (at-child .child .ensures) (row c s h) (c .totals .ensures) (first-is c s h)
 
-  -- ---- where the vector behind it is known
+  -- ---- where the suffix costs behind it is known
 
   vector : (c : At-behind) (s : Sheet) (h : Asked (start-of (child-place (totals-place c))) s) → let at-totals = totals-place c in
       let at-child = child-place at-totals in
       let a = start-of at-child .args in
-      Behind s (c .behind .last .1 .1 .0) (partsAt s (a .l) (unitsOf (end-of at-child)) (drop (at-child .before .before .loop .j + 1)
-      (h .parts .divides .parts))) (at-totals .totals .result) (a .v) (c .behind .result)
-  vector c s h = c .behind .ensures s (behind-entry (totals-place c) s h)
+      SuffixCosts s (c .suffix-costs .last .1 .1 .0) (partsAt s (a .l) (unitsOf (end-of at-child)) (drop (at-child .before .before .loop .j + 1)
+      (h .parts .divides .parts))) (at-totals .totals .result) (a .v) (c .suffix-costs .result)
+  vector c s h = c .suffix-costs .ensures s (suffix-costs-entry (totals-place c) s h)
 
   -- it may be built
   build-entry : (c : At-behind) (s : Sheet) → Asked (start-of (child-place (totals-place c))) s → let at-totals = totals-place c in
       let at-child = child-place at-totals in
       let a = start-of at-child .args in
       let loop = at-child .before .before .loop in
-      BuildEntry s (a .plan .now) (a .units .now) (c .behind .last .1 .1 .0) (loop .tree) (a .bar) (at-child .child .result) (a .l)
-      (unitsOf (loop .lo)) (loop .at) (loop .carry) (at-totals .before .before .before .cells .result) (c .behind .result) (loop .next)
+      BuildPre s (a .plan .now) (a .units .now) (c .suffix-costs .last .1 .1 .0) (loop .tree) (a .bar) (at-child .child .result) (a .l)
+      (unitsOf (loop .lo)) (loop .at) (loop .carry) (at-totals .before .before .before .cells .result) (c .suffix-costs .result) (loop .next)
   build-entry c s h =
       let at-totals = totals-place c in
       let at-child = child-place at-totals in
@@ -199,10 +199,10 @@ module _ (t : ℕ) where
   pub totals-requires : build-parts-lts.Need-totals-requires calls (build-parts-at t) build-parts.Post Inv-loop μ-loop
   totals-requires c κs = search needs
 
-  pub behind-requires : build-parts-lts.Need-behind-requires calls (build-parts-at t) build-parts.Post Inv-loop μ-loop
-  behind-requires c κs =
+  pub suffix-costs-requires : build-parts-lts.Need-suffix-costs-requires calls (build-parts-at t) build-parts.Post Inv-loop μ-loop
+  suffix-costs-requires c κs =
       let at-start = start-of (child-place (c .before)) in
-      (at-start .pre .1 .0, behind-entry (c .before) _ (at-start .pre .1 .1))
+      (at-start .pre .1 .0, suffix-costs-entry (c .before) _ (at-start .pre .1 .1))
 
   -- a part's measure is one less
   pub build-requires : build-parts-lts.Need-build-requires calls (build-parts-at t) build-parts.Post Inv-loop μ-loop

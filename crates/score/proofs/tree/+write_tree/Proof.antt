@@ -10,7 +10,7 @@ use lib.ListN.{length}
 use Rattle.sheet.specs.Sheet.{Sheet}
 use Rattle.derivations.specs.Derivation.{Item}
 use Rattle.score.proofs.TreeSteps.{rule-left, rule-small, leaf-here, division-here, leaf-entry, leaf-done}
-use Rattle.score.proofs.PartsSteps.{PartsEntry, PartsUpto, none-left, one-left, parts-none, part-entry, part-done, two-parts}
+use Rattle.score.proofs.PartsSteps.{PartsPre, PartsUpto, none-left, one-left, parts-none, part-entry, part-done, two-parts}
 use Rattle.score.proofs.PartsSteps.{part-shorter, parts-entry, division-done}
 use borrow.Fn.Kinds.{In}
 use borrow.Fn.PlainCycle.{Measures, is, falls, and}
@@ -36,7 +36,7 @@ write-tree-below t =
 abbrev write-tree-Inv-loop : write-tree-lts.InvT-loop
 write-tree-Inv-loop rules units pitches list score₀ at next₀ arity k len left₀ j₀ score next left j =
     (j ≤ k) × (left ≡ left₀ + j * len) × (length score ≡ length score₀) ×
-    ((s : Sheet) (rest : List Item) (ks : List ℕ) → length ks ≡ k → PartsEntry s rest ks rules units pitches list left₀ len next₀ score₀ →
+    ((s : Sheet) (rest : List Item) (ks : List ℕ) → length ks ≡ k → PartsPre s rest ks rules units pitches list left₀ len next₀ score₀ →
     PartsUpto s rest ks list left₀ len next₀ score₀ j next score)
 
 abbrev write-tree-μ-loop : write-tree-lts.MeasureT-loop

@@ -6,7 +6,7 @@ use mathlib.Core.Path.{_≡_, refl}
 use native.Mathlib.Omega.{arith}
 use lib.ListN.{length}
 use Rattle.sheet.specs.Sheet.{Sheet}
-use Rattle.score.specs.Steps.{BarsEntry}
+use Rattle.score.specs.Contracts.{BarsPre}
 use Rattle.score.proofs.PartsSteps.{parts-none, part-entry, part-done}
 use Rattle.score.proofs.BarsSteps.{BarsUpto, bar-left, bars-entry, bars-done}
 use Rattle.score.proofs.tree.write_bars.Statement.{statement}
@@ -15,7 +15,7 @@ use Rattle.score.proofs.tree.write_bars.Tie as tie
 abbrev Inv-loop : tie.InvT-loop
 Inv-loop rules units pitches list bars to score₀ n next₀ b₀ score next b =
     (b ≤ n) × (length score ≡ length score₀) ×
-    ((s : Sheet) → BarsEntry s rules units pitches list bars to score₀ → BarsUpto s list to score₀ b next score)
+    ((s : Sheet) → BarsPre s rules units pitches list bars to score₀ → BarsUpto s list to score₀ b next score)
 
 abbrev μ-loop : tie.MeasureT-loop
 μ-loop rules units pitches list bars to score₀ n next₀ b₀ score next b = n - b

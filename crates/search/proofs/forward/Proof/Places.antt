@@ -1,20 +1,20 @@
 -- The places of `forward`, and what is known there of a sheet for which it is asked: bar b is the sheet's (`is-bar`), its rows are filled
--- ahead (`filled`) and stored (`more`), and the bars up to its end may be settled (`settle-entry`), or all bars (`last-entry`).
+-- ahead (`filled`) and stored (`more`), and the bars up to its end may be committed (`commit-entry`), or all bars (`last-entry`).
 use Prim.Native.Nat.{_+_, _-_, _≤_}
 use mathlib.Core.Path.{_≡_}
 use native.Mathlib.Omega.{arith}
 use lib.ListN.{length}
 use Rattle.sheet.specs.Sheet.{Sheet}
-use Rattle.search.specs.Search.{barOf, PassEntry, RootsTo, Closed, SettleEntry, ForwardEntry}
+use Rattle.search.specs.Contracts.{barOf, PassPre, RootsTo, CutVector, CommitPre, ForwardPre}
 use Rattle.search.proofs.EnterSteps.{bar-enter}
 use Rattle.search.proofs.PassSteps.{forward-pass, forward-more}
-use Rattle.search.proofs.SettleSteps.{Going, going-fill, going-filled, going-more, going-settle, going-last}
+use Rattle.search.proofs.CommitSteps.{Going, going-fill, going-filled, going-more, going-commit, going-last}
 use Rattle.search.proofs.forward.Tie as tie
 
 abbrev pub Inv-loop : tie.InvT-loop
 Inv-loop plan units order rows₀ tree₀ roots₀ vectors₀ start count slots v₀ done₀ next₀ b₀ rows tree roots vectors v done next b =
     (b ≤ count) × (length roots ≡ length roots₀) × (length vectors ≡ length vectors₀) × (length tree ≡ length tree₀)
-    × ((s : Sheet) → ForwardEntry s plan units order rows₀ tree₀ roots₀ vectors₀ start count → Going s rows tree roots b v done next)
+    × ((s : Sheet) → ForwardPre s plan units order rows₀ tree₀ roots₀ vectors₀ start count → Going s rows tree roots b v done next)
 
 abbrev pub μ-loop : tie.MeasureT-loop
 μ-loop plan units order rows₀ tree₀ roots₀ vectors₀ start count slots v₀ done₀ next₀ b₀ rows tree roots vectors v done next b =
@@ -32,8 +32,8 @@ abbrev pub At-pass : Type 0
 At-pass = tie.After-pass Inv-loop μ-loop
 
 -- bar b is reached and nothing is carried into it
-abbrev pub At-closed : Type 0
-At-closed = tie.Then1 Inv-loop μ-loop
+abbrev pub At-cut : Type 0
+At-cut = tie.Then1 Inv-loop μ-loop
 
 -- the loop is left, and a total is below the cap
 abbrev pub At-found : Type 0
@@ -51,14 +51,14 @@ pass-fill c = c .before .before .before .before .before
 abbrev pub pass-loop : At-pass → At-loop
 pass-loop c = fill-loop (pass-fill c)
 
-abbrev pub closed-pass : At-closed → At-pass
-closed-pass c = c .before .before .before .before .before .before
+abbrev pub cut-pass : At-cut → At-pass
+cut-pass c = c .before .before .before .before .before .before
 
 -- what is asked for, of a sheet s
 abbrev pub Asked : At-loop → Sheet → Type 0
 Asked c s =
     let a = start-of c .args in
-    ForwardEntry s (a .plan .now) (a .units .now) (a .order .now) (a .rows .now) (a .tree .now) (a .roots .now) (a .vectors .now)
+    ForwardPre s (a .plan .now) (a .units .now) (a .order .now) (a .rows .now) (a .tree .now) (a .roots .now) (a .vectors .now)
     (a .start) (a .count)
 
 -- ---- where the rows of bar b are filled ahead
@@ -77,7 +77,7 @@ filled c s h =
 pub pass-entry : (c : At-fill) (s : Sheet) → Asked (fill-loop c) s → let a = start-of (fill-loop c) .args in
     let loop = fill-loop c .loop in
     let bar = c .before .before .enter .result in
-    PassEntry s (a .plan .now) (a .units .now) (c .fill-bar .last .1 .1 .1 .0) bar (a .start) (loop .v)
+    PassPre s (a .plan .now) (a .units .now) (c .fill-bar .last .1 .1 .1 .0) bar (a .start) (loop .v)
     × RootsTo s (loop .roots) (bar .number) 0
 pass-entry c s h =
     let at-enter = c .before .before in
@@ -92,20 +92,20 @@ more c s h =
     let entry = pass-entry at-fill s h in
     going-more h (filled at-fill s h) (forward-more (is-bar (at-fill .before .before) s h) (c .pass .ensures s (entry .0) (entry .1)))
 
--- ---- where nothing is carried over its end: the bars up to there may be settled
+-- ---- where nothing is carried over its end: the bars up to there may be committed
 
-pub closed : (c : At-closed) (s : Sheet) → Asked (pass-loop (closed-pass c)) s → Closed s (closed-pass c .pass .result)
-closed c s h = c .before .closed .ensures s (h .entry .prepared) (c .if1 .taken)
+pub cut-vector : (c : At-cut) (s : Sheet) → Asked (pass-loop (cut-pass c)) s → CutVector s (cut-pass c .pass .result)
+cut-vector c s h = c .before .is-cut-point .ensures s (h .entry .prepared) (c .if1 .taken)
 
-pub settle-entry : (c : At-closed) (s : Sheet) → Asked (pass-loop (closed-pass c)) s → let at-pass = closed-pass c in
+pub commit-entry : (c : At-cut) (s : Sheet) → Asked (pass-loop (cut-pass c)) s → let at-pass = cut-pass c in
     let a = start-of (pass-loop at-pass) .args in
     let loop = pass-loop at-pass .loop in
-    SettleEntry s (a .plan .now) (a .units .now) (at-pass .pass .last .1 .1 .0) (loop .tree) (at-pass .pass .last .1 .1 .1 .0)
+    CommitPre s (a .plan .now) (a .units .now) (at-pass .pass .last .1 .1 .0) (loop .tree) (at-pass .pass .last .1 .1 .1 .0)
     (loop .vectors) (a .start) (loop .done) (loop .b + 1) (loop .next)
-settle-entry c s h =
-    let at-loop = pass-loop (closed-pass c) in
-    let at-test = pass-fill (closed-pass c) .before .before .before in
-    going-settle h (more (closed-pass c) s h) (omega (arith, at-test .loop-test .taken)) (at-loop .loop .inv .2) (closed c s h .reached)
+commit-entry c s h =
+    let at-loop = pass-loop (cut-pass c) in
+    let at-test = pass-fill (cut-pass c) .before .before .before in
+    going-commit h (more (cut-pass c) s h) (omega (arith, at-test .loop-test .taken)) (at-loop .loop .inv .2) (cut-vector c s h .reached)
 
 -- ---- where all bars are passed
 
@@ -114,7 +114,7 @@ all-passed c = omega (arith, c .loop-test .left, c .before .loop .inv .0)
 
 pub last-entry : (c : At-found) (s : Sheet) → Asked (c .before .before) s → let a = start-of (c .before .before) .args in
     let loop = c .before .before .loop in
-    SettleEntry s (a .plan .now) (a .units .now) (loop .rows) (loop .tree) (loop .roots) (loop .vectors) (a .start) (loop .done) (a .count)
+    CommitPre s (a .plan .now) (a .units .now) (loop .rows) (loop .tree) (loop .roots) (loop .vectors) (a .start) (loop .done) (a .count)
     (loop .next)
 last-entry c s h =
     let loop = c .before .before .loop in

@@ -21,13 +21,13 @@ weightIn (Division h w k) = w
 weightIn (Leaf h w n) = w
 
 -- a sheet's packed rules, and a list of rule numbers that is no longer than a tree
-pub record WeightEntry (s : Sheet) (rules list : List ℕ) : Type 0 where
+pub record WeightPre (s : Sheet) (rules list : List ℕ) : Type 0 where
   pub packed : PackedRules (s .grammar) rules
   pub below : Every (λ (r : ℕ). r < 64) list
   pub few : length list ≤ treeMost
 
 -- an accepted sheet's grammar, and a valid tree with its R, its D and its total
-pub record FiguresEntry (s : Sheet) (grammar : GrammarTable) (list : List ℕ) (R D total : ℕ) : Type 0 where
+pub record FiguresPre (s : Sheet) (grammar : GrammarTable) (list : List ℕ) (R D total : ℕ) : Type 0 where
   pub good : Good s
   pub held : grammar ≡ grammarTable (s .grammar)
   pub tree : Priced s list R D

@@ -1,4 +1,4 @@
--- Laws of settling: bars into which nothing is carried may be built by themselves. What is written of them is then the front of the first
+-- Laws of committing: bars into which nothing is carried may be built by themselves. What is written of them is then the front of the first
 -- least list, whatever bars follow.
 use Prim.Native.Nat.{ℕ, _+_, _*_, _≤_, _<_}
 use mathlib.Core.Path.{_≡_, refl, sym, ap, subst, _∙_}
@@ -17,8 +17,8 @@ use Rattle.derivations.specs.Bound.{sumOf, sum-append, nodes-bound}
 use Rattle.derivations.specs.Minima.{only, only-same, only-below}
 use Rattle.derivations.specs.Least.{Least, total, carry-fits}
 use Rattle.derivations.specs.First.{First, first-nil, first-total, first-append}
-use Rattle.derivations.specs.Table.{Exact, backward-least, parts-least}
-use Rattle.derivations.specs.Serving.{Serves, first-served, first-raised}
+use Rattle.derivations.specs.Folds.{Exact, backward-least, parts-least}
+use Rattle.derivations.specs.Interchange.{Interchangeable, first-interchanged, first-raised}
 use Rattle.trees.specs.ValidTrees.{bars}
 use Rattle.trees.specs.Instance.{instanceOf}
 use Rattle.trees.specs.LeastTotal.{NONE, carries, cellOf}
@@ -26,15 +26,15 @@ use Rattle.trees.specs.Laws.{lawful}
 use Rattle.trees.specs.Room.{room, room-pays, bars-room}
 use Rattle.trees.specs.Found.{cells-least}
 use Rattle.sizes.specs.Sizes.{treeBytes}
-use Rattle.building.specs.Rebuilding.{Partway, BuiltAs}
+use Rattle.building.specs.Contracts.{Partway, BuiltAs}
 use Rattle.building.specs.RebuildLaws.{partway-done}
 use Rattle.rows.specs.Slots.{Sound}
-use Rattle.search.specs.Search.{barsFrom, barsTo, behindBars, beforeBars, Shut, OnPath, Settled}
-use Rattle.search.specs.BarLaws.{bars-none, bars-cut, total-least, path-busy, path-shut}
+use Rattle.search.specs.Contracts.{barsFrom, barsTo, barSuffixCosts, prefixCosts, CutPoint, OnPath, Committed}
+use Rattle.search.proofs.BarLaws.{bars-none, bars-cut, total-least, path-busy, path-cut}
 
 -- before the first bar
-pub settled-none : (s : Sheet) (tree : List ℕ) → treeBytes s ≤ length tree → Settled s tree 0 0
-settled-none s tree room = record {
+pub committed-none : (s : Sheet) (tree : List ℕ) → treeBytes s ≤ length tree → Committed s tree 0 0
+committed-none s tree room = record {
   bytes = [];
   price = unspent 0;
   first = first-nil (instanceOf s) (s .grammar .multiplier) (only NONE 0) 0;
@@ -52,49 +52,49 @@ module _ (s : Sheet) (good : GoodRules (s .grammar)) where
   every gs = every-all (Exact (instanceOf s) a NONE carries (cellOf s)) (cells-least s good) gs
 
   -- what the bars before bar b total, to a carry state
-  before-least : (b c : ℕ) → c < carries → Least (instanceOf s) a NONE (barsTo s b) (only NONE c) 0 (beforeBars s b c)
-  before-least b c hc =
+  prefix-least : (b c : ℕ) → c < carries → Least (instanceOf s) a NONE (barsTo s b) (only NONE c) 0 (prefixCosts s b c)
+  prefix-least b c hc =
       parts-least (lawful s) a NONE (cellOf s) (barsTo s b) 0 c (omega arith) hc (every (barsTo s b))
 
-  -- bars that are settled total the least
-  settled-total : {tree : List ℕ} {b n : ℕ} → beforeBars s b 0 < NONE → (p : Settled s tree b n)
-      → a * p .price .weight + p .price .distance ≡ beforeBars s b 0
-  settled-total {tree} {b} low p =
+  -- bars that are committed total the least
+  committed-total : {tree : List ℕ} {b n : ℕ} → prefixCosts s b 0 < NONE → (p : Committed s tree b n)
+      → a * p .price .weight + p .price .distance ≡ prefixCosts s b 0
+  committed-total {tree} {b} low p =
       omega (
         arith,
-        first-total (instanceOf s) a NONE (barsTo s b) (only NONE 0) 0 (beforeBars s b 0) (p .bytes) (p .price)
-            (before-least b 0 (omega arith)) low
+        first-total (instanceOf s) a NONE (barsTo s b) (only NONE 0) 0 (prefixCosts s b 0) (p .bytes) (p .price)
+            (prefix-least b 0 (omega arith)) low
             (p .first),
         ap (only NONE 0) (p .carry-none),
         only-same NONE 0,
       )
 
-  module _ (e : ℕ) (reached : beforeBars s e 0 < NONE) (b : ℕ) (hb : b ≤ e) (shut : Shut s b) where
+  module _ (e : ℕ) (reached : prefixCosts s e 0 < NONE) (b : ℕ) (hb : b ≤ e) (cut : CutPoint s b) where
     abbrev u : ℕ → ℕ
-    u = behindBars s e b
+    u = barSuffixCosts s e b
 
     on : OnPath s e b 0
-    on = path-shut s e good reached b hb shut
+    on = path-cut s e good reached b hb cut
 
-    pub shut-reached : behindBars s e b 0 < NONE
-    shut-reached = omega (arith, on)
+    pub cut-reached : barSuffixCosts s e b 0 < NONE
+    cut-reached = omega (arith, on)
 
     -- a list of them from which something is carried on is not the front of a least list
-    carried-more : (c : ℕ) → 0 < c → c < carries → beforeBars s e 0 < beforeBars s b c + u c
-    carried-more c over-0 hc = elim (decLt (beforeBars s e 0) (beforeBars s b c + u c)) [
+    carried-more : (c : ℕ) → 0 < c → c < carries → prefixCosts s e 0 < prefixCosts s b c + u c
+    carried-more c over-0 hc = elim (decLt (prefixCosts s e 0) (prefixCosts s b c + u c)) [
       | yes h ↦ h
-      | no h ↦ absurd (path-busy s e good reached b c hb over-0 hc (omega arith) (shut c over-0 hc))
+      | no h ↦ absurd (path-busy s e good reached b c hb over-0 hc (omega arith) (cut c over-0 hc))
     ]
 
-    module _ {tree : List ℕ} {n : ℕ} (p : Settled s tree b n) where
-      serves : Serves (instanceOf s) a (barsTo s b) u (λ m. only NONE 0 m + u 0) 0 (beforeBars s e 0)
-      serves = record { reached = (p .bytes, p .price, p .first .reads, own); each = each }
+    module _ {tree : List ℕ} {n : ℕ} (p : Committed s tree b n) where
+      alike : Interchangeable (instanceOf s) a (barsTo s b) u (λ m. only NONE 0 m + u 0) 0 (prefixCosts s e 0)
+      alike = record { reached = (p .bytes, p .price, p .first .reads, own); each = each }
         where
-          own : beforeBars s e 0 ≡ total a u (p .price)
+          own : prefixCosts s e 0 ≡ total a u (p .price)
           own =
               omega (
                 arith,
-                settled-total (omega (arith, on)) p,
+                committed-total (omega (arith, on)) p,
                 ap u (p .carry-none),
                 on,
                 total-least s e good b 0 hb (omega arith),
@@ -102,7 +102,7 @@ module _ (s : Sheet) (good : GoodRules (s .grammar)) where
 
           each : (bs : List ℕ) (q : Price) → derive (instanceOf s) bs (barsTo s b) 0 ≡ some q
               → (only NONE 0 (q .carry) + u 0 ≡ u (q .carry))
-              ⊎ ((beforeBars s e 0 < total a u q) × (beforeBars s e 0 < total a (λ m. only NONE 0 m + u 0) q))
+              ⊎ ((prefixCosts s e 0 < total a u q) × (prefixCosts s e 0 < total a (λ m. only NONE 0 m + u 0) q))
           each bs q h = elim (ℕ-discrete (q .carry) 0) [
             | yes z ↦ inl (omega (arith, ap (only NONE 0) z, ap u z, only-same NONE 0))
             | no z ↦
@@ -111,14 +111,14 @@ module _ (s : Sheet) (good : GoodRules (s .grammar)) where
                   omega (
                     arith,
                     carried-more (q .carry) (omega arith) few,
-                    before-least b (q .carry) few .below bs q h,
+                    prefix-least b (q .carry) few .below bs q h,
                     only-same NONE (q .carry),
                   ),
                   above (q .carry) z,
                 )
           ]
             where
-              above : (c : ℕ) → (c ≡ 0 → ⊥) → beforeBars s e 0 < a * q .weight + q .distance + (only NONE 0 c + u 0)
+              above : (c : ℕ) → (c ≡ 0 → ⊥) → prefixCosts s e 0 < a * q .weight + q .distance + (only NONE 0 c + u 0)
               above c z = elim (decLt (only NONE 0 c) NONE) [
                 | yes k ↦ absurd (z (only-below NONE 0 c k))
                 | no k ↦ omega arith
@@ -131,8 +131,8 @@ module _ (s : Sheet) (good : GoodRules (s .grammar)) where
           subst (λ (gs : List Item). First (instanceOf s) a gs (only NONE 0) 0 (p .bytes ++ xs) (p .price ⊞ q)) (sym (bars-cut s e b hb))
           (first-append (lawful s) a NONE (barsTo s b) (barsFrom s e b) (only NONE 0) u 0 (p .bytes) xs (p .price) q (omega arith)
           (λ m hm. backward-least (lawful s) a NONE (cellOf s) (barsFrom s e b) (only NONE 0) m (every (barsFrom s e b)) hm)
-          (omega (arith, ap u (p .carry-none), shut-reached))
-          (first-served serves (first-raised (u 0) (p .first)))
+          (omega (arith, ap u (p .carry-none), cut-reached))
+          (first-interchanged alike (first-raised (u 0) (p .first)))
           (subst (λ (c : ℕ). First (instanceOf s) a (barsFrom s e b) (only NONE 0) c xs q) (sym (p .carry-none)) f))
 
       rooms : e ≤ s .playing .bars → n + sumOf (room s) (barsFrom s e b) ≤ length tree
@@ -151,15 +151,15 @@ module _ (s : Sheet) (good : GoodRules (s .grammar)) where
           )
 
       -- so building goes on from them
-      pub partway-settled : e ≤ s .playing .bars → Partway s tree tree (barsTo s e) (barsFrom s e b) (only NONE 0) 0 0 0 n
+      pub partway-committed : e ≤ s .playing .bars → Partway s tree tree (barsTo s e) (barsFrom s e b) (only NONE 0) 0 0 0 n
       unfolding overFrom
-      partway-settled he = record {
+      partway-committed he = record {
         bytes = p .bytes;
         price = p .price;
         carry-is = sym (p .carry-none);
         few = omega arith;
         and-then = then;
-        reached = shut-reached;
+        reached = cut-reached;
         next-is = p .count-is ∙ omega arith;
         written = written;
         fits = rooms he;
@@ -171,10 +171,10 @@ module _ (s : Sheet) (good : GoodRules (s .grammar)) where
               ∙ ap (_++ drop (length (p .bytes)) tree) (sym (p .front)) ∙ take-append-drop (length (p .bytes)) tree)
 
   -- all of them are built
-  pub settled-built : (e : ℕ) → beforeBars s e 0 < NONE → {rows tree now : List ℕ} {carry n : ℕ} → Sound s rows
-      → Partway s tree now (barsTo s e) (barsFrom s e e) (only NONE 0) 0 0 carry n → treeBytes s ≤ length tree → Settled s now e n
+  pub committed-built : (e : ℕ) → prefixCosts s e 0 < NONE → {rows tree now : List ℕ} {carry n : ℕ} → Sound s rows
+      → Partway s tree now (barsTo s e) (barsFrom s e e) (only NONE 0) 0 0 carry n → treeBytes s ≤ length tree → Committed s now e n
   unfolding overFrom
-  settled-built e reached {rows} {tree} {now} {carry} {n} sound p fits = record {
+  committed-built e reached {rows} {tree} {now} {carry} {n} sound p fits = record {
     bytes = built .bytes;
     price = built .price;
     first = built .first;
@@ -189,8 +189,8 @@ module _ (s : Sheet) (good : GoodRules (s .grammar)) where
           partway-done s good rows tree now (barsTo s e) (only NONE 0) 0 0 carry n _ sound
           (subst (λ (gs : List Item). Partway s tree now (barsTo s e) gs (only NONE 0) 0 0 carry n) (bars-none s e) p) refl refl
 
-      whole : total a (only NONE 0) (built .price) ≡ beforeBars s e 0
+      whole : total a (only NONE 0) (built .price) ≡ prefixCosts s e 0
       whole =
-          first-total (instanceOf s) a NONE (barsTo s e) (only NONE 0) 0 (beforeBars s e 0) (built .bytes) (built .price)
-          (before-least e 0 (omega arith)) reached
+          first-total (instanceOf s) a NONE (barsTo s e) (only NONE 0) 0 (prefixCosts s e 0) (built .bytes) (built .price)
+          (prefix-least e 0 (omega arith)) reached
           (built .first)

@@ -1,4 +1,4 @@
--- A vector that serves for another behind some items: where the two differ, no list that comes there is least with either. So the first
+-- Interchangeable suffix costs behind some items: where two vectors of them differ, no list that comes there is least with either. So the first
 -- least list with the one is the first least list with the other, and a search may leave out what no least list passes. And the least
 -- total over items that are cut in two.
 use Prim.Native.Nat.{ℕ, _+_, _*_, _≤_, _<_}
@@ -12,43 +12,43 @@ use Rattle.derivations.specs.Derivation.{Item, Price, Instance, Lawful, 
 use Rattle.derivations.specs.Minima.{lowest, lowest-cap, only, only-same}
 use Rattle.derivations.specs.Least.{total, Reached, least-same, least-append, carry-fits}
 use Rattle.derivations.specs.First.{First, Lex}
-use Rattle.derivations.specs.Table.{Cells, backward, forward, Exact, backward-least, parts-least}
+use Rattle.derivations.specs.Folds.{Cells, backward, forward, Exact, backward-least, parts-least}
 
 -- some list totals `goal` with the vector v; w is v at the carry state behind each list, or the list totals more with either
-pub record Serves (P : Instance) (a : ℕ) (gs : List Item) (v w : ℕ → ℕ) (c goal : ℕ) : Type 0 where
+pub record Interchangeable (P : Instance) (a : ℕ) (gs : List Item) (v w : ℕ → ℕ) (c goal : ℕ) : Type 0 where
   pub reached : Reached P a gs v c goal
   pub each : (bs : List ℕ) (p : Price) → derive P bs gs c ≡ some p
       → (w (p .carry) ≡ v (p .carry)) ⊎ ((goal < total a v p) × (goal < total a w p))
 
 -- the first least list with w is the first least list with v
-pub first-served : {P : Instance} {a : ℕ} {gs : List Item} {v w : ℕ → ℕ} {c goal : ℕ} {bs : List ℕ} {p : Price}
-    → Serves P a gs v w c goal → First P a gs w c bs p → First P a gs v c bs p
-first-served {P} {a} {gs} {v} {w} {c} {goal} {bs} {p} serves f =
+pub first-interchanged : {P : Instance} {a : ℕ} {gs : List Item} {v w : ℕ → ℕ} {c goal : ℕ} {bs : List ℕ} {p : Price}
+    → Interchangeable P a gs v w c goal → First P a gs w c bs p → First P a gs v c bs p
+first-interchanged {P} {a} {gs} {v} {w} {c} {goal} {bs} {p} alike f =
     record { reads = f .reads; least = low; first = lex }
   where
     no-more : total a w p ≤ goal
-    no-more = go (serves .reached)
+    no-more = go (alike .reached)
       where
         go : Reached P a gs v c goal → total a w p ≤ goal
-        go (xs, q, h, e) = elim (serves .each xs q h) [
+        go (xs, q, h, e) = elim (alike .each xs q h) [
           | inl same ↦ omega (arith, same, e, f .least xs q h)
           | inr (k, _) ↦ absurd (omega (arith, e))
         ]
 
     agrees : w (p .carry) ≡ v (p .carry)
-    agrees = elim (serves .each bs p (f .reads)) [
+    agrees = elim (alike .each bs p (f .reads)) [
       | inl same ↦ same
       | inr (_, k) ↦ absurd (omega (arith, no-more))
     ]
 
     low : (xs : List ℕ) (q : Price) → derive P xs gs c ≡ some q → total a v p ≤ total a v q
-    low xs q h = elim (serves .each xs q h) [
+    low xs q h = elim (alike .each xs q h) [
       | inl same ↦ omega (arith, same, agrees, f .least xs q h)
       | inr (k, _) ↦ omega (arith, agrees, no-more)
     ]
 
     lex : (xs : List ℕ) (q : Price) → derive P xs gs c ≡ some q → total a v q ≤ total a v p → Lex bs xs
-    lex xs q h k = elim (serves .each xs q h) [
+    lex xs q h k = elim (alike .each xs q h) [
       | inl same ↦ f .first xs q h (omega (arith, same, agrees))
       | inr (i, _) ↦ absurd (omega (arith, agrees, no-more))
     ]
@@ -71,11 +71,11 @@ module _ {P : Instance} {C : ℕ} (L : Lawful P C) (a cap : ℕ) (cell : Cells) 
       omega (arith, exact g c (p .carry) hc few .below bs p h, only-same cap (p .carry))
 
   -- an item, where at each carry state the vectors agree or the item's cell with either is above the least total
-  pub serves-item : (g : Item) (v w : ℕ → ℕ) (c goal : ℕ) → c < C → goal ≡ lowest cap (λ m. cell g c m + v m) C → goal < cap
+  pub interchangeable-item : (g : Item) (v w : ℕ → ℕ) (c goal : ℕ) → c < C → goal ≡ lowest cap (λ m. cell g c m + v m) C → goal < cap
       → ((m : ℕ) → m < C → (w m ≡ v m) ⊎ ((goal < cell g c m + v m) × (goal < cell g c m + w m)))
-      → Serves P a (g ∷ []) v w c goal
+      → Interchangeable P a (g ∷ []) v w c goal
   unfolding backward
-  serves-item g v w c goal hc e low apart = record {
+  interchangeable-item g v w c goal hc e low apart = record {
     reached = rw (sym e) at (backward-least L a cap cell (g ∷ []) v c (exact g, tt) hc .attained (omega (arith, e)));
     each = λ bs p h. elim (apart (p .carry) (carry-fits L bs (g ∷ []) c p h hc)) [
       | inl same ↦ inl same

@@ -71,7 +71,7 @@ abbrev pub leafText : Sheet → Interval → (n : ℕ) → Place → List ℕ
 leafText s over n p = lineText (leafLine (scoreLeaf (entryAt s over n p)))
 
 -- what `write_leaf` is given: its line has room
-pub record LeafEntry (s : Sheet) (us ps : List ℕ) (over : Interval) (n : ℕ) (p : Place) (score : List ℕ) : Type 0 where
+pub record LeafPre (s : Sheet) (us ps : List ℕ) (over : Interval) (n : ℕ) (p : Place) (score : List ℕ) : Type 0 where
   pub onsets : OnsetsHeld s us ps
   pub in-bar : InOneBar s (over .left .0) (over .len .0)
   pub stands : StandsAt s (over .left .0) p
@@ -105,7 +105,7 @@ pub record WentOn (s : Sheet) (list : List ℕ) (gs : List Item) (p : Place) (sc
   pub end : r .to + length (textLeft s list hs r) ≡ p .to + length (textLeft s list gs p)
 
 -- what `write_tree` is given: the rules of a nonterminal q over the interval stand in the list, and then those of the items that follow
-pub record TreeEntry (s : Sheet) (q : ℕ) (rest : List Item) (cells us ps list : List ℕ) (over : Interval) (p : Place)
+pub record TreePre (s : Sheet) (q : ℕ) (rest : List Item) (cells us ps list : List ℕ) (over : Interval) (p : Place)
     (score : List ℕ) : Type 0 where
   pub rules : RulesHeld s cells
   pub onsets : OnsetsHeld s us ps
@@ -121,7 +121,7 @@ pub record TreeWritten (s : Sheet) (q : ℕ) (rest : List Item) (list : List ℕ
 -- ---- the whole text
 
 -- what `write_bars` is given: the list is a valid tree, and the lines of its leaves have room from place `to` on
-pub record BarsEntry (s : Sheet) (cells us ps list : List ℕ) (count to : ℕ) (score : List ℕ) : Type 0 where
+pub record BarsPre (s : Sheet) (cells us ps list : List ℕ) (count to : ℕ) (score : List ℕ) : Type 0 where
   pub rules : RulesHeld s cells
   pub onsets : OnsetsHeld s us ps
   pub bars : count ≡ s .playing .bars
@@ -134,7 +134,7 @@ pub record BarsWritten (s : Sheet) (list : List ℕ) (to r : ℕ) (score score�
   pub end : r ≡ to + length (entryLines (entriesOf s list))
 
 -- what `write_text` is given: the tables hold the sheet, the list is a valid tree, and its text has room
-pub record TextEntry (s : Sheet) (cells : List ℕ) (p : PlayingTable) (list : List ℕ) (R D total : ℕ) (score : List ℕ) : Type 0 where
+pub record TextPre (s : Sheet) (cells : List ℕ) (p : PlayingTable) (list : List ℕ) (R D total : ℕ) (score : List ℕ) : Type 0 where
   pub rules : RulesHeld s cells
   pub good : GoodOnsets (s .playing)
   pub playing : p ≡ playingTable (s .playing)
@@ -147,6 +147,6 @@ pub record TextWritten (s : Sheet) (list : List ℕ) (R D total r : ℕ) (score 
   pub end : r ≡ length (treeText s list R D total)
 
 -- what `write_priced` is given: the tables hold the sheet, and the price is what pricing the list gives
-pub record PricedEntry (s : Sheet) (g : GrammarTable) (p : PlayingTable) (list : List ℕ) (price : Priced) : Type 0 where
+pub record PricedPre (s : Sheet) (g : GrammarTable) (p : PlayingTable) (list : List ℕ) (price : Priced) : Type 0 where
   pub held : SheetHeld s g p
   pub own : price ≡ pricedOf (priceSheet s list)

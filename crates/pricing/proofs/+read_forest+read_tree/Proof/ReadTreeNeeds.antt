@@ -1,5 +1,5 @@
 -- `read_tree`: no tree where the list ends or `expand` refuses its rule; a leaf by itself (`leaf-walked`); a division by its parts, which
--- `read_row` reads behind it (`parts-walked`).
+-- `read_forest` reads behind it (`parts-walked`).
 use Prim.Native.Nat.{ℕ, _+_, _≤_, _<_}
 use mathlib.Core.Path.{_≡_}
 use native.Mathlib.Omega.{arith}
@@ -7,20 +7,20 @@ use borrow.Author.Needs.{needs}
 use lib.ListN.{length, getD}
 use Rattle.sheet.specs.Sheet.{Sheet}
 use Rattle.expansions.specs.Items.{itemOf, LeafMade, DivisionMade}
-use Rattle.pricing.specs.Steps.{Room, ItemEntry}
+use Rattle.pricing.specs.Contracts.{Room, ItemPre}
 use Rattle.pricing.proofs.TreeSteps.{item-at, children-length, list-ends, leaf-told, division-told, rule-refused, leaf-room}
 use Rattle.pricing.proofs.TreeSteps.{leaf-walked, parts-fall, arity-small, rule-room, kids-are, parts-entry, parts-walked}
-use Rattle.pricing.proofs.read_row.Reads as read-row
+use Rattle.pricing.proofs.read_forest.Reads as read-forest
 use Rattle.pricing.proofs.read_tree.Reads as read-tree
-use Rattle.pricing.proofs.+read_row+read_tree.Lts-read_tree as read-tree-lts
+use Rattle.pricing.proofs.+read_forest+read_tree.Lts-read_tree as read-tree-lts
 use Rattle.expansions.proofs.expand.Reads as expand-reads
 use Rattle.pricing.proofs.behind.Reads as behind-reads
-use Rattle.pricing.proofs.+read_row+read_tree.Proof.Measures.{read-row-below, read-tree-at}
+use Rattle.pricing.proofs.+read_forest+read_tree.Proof.Measures.{read-forest-below, read-tree-at}
 
 module _ (t : ℕ) where
   -- the readings of the callees of `read_tree`
   abbrev pub calls : read-tree-lts.Claims
-  calls = (expand-reads.Asked, expand-reads.Learnt, behind-reads.Asked, behind-reads.Learnt, read-row-below t, read-row.Post)
+  calls = (expand-reads.Asked, expand-reads.Learnt, behind-reads.Asked, behind-reads.Learnt, read-forest-below t, read-forest.Post)
 
   -- ---- places
 
@@ -50,7 +50,7 @@ module _ (t : ℕ) where
   abbrev Asked : At-start → Sheet → Type 0
   Asked c s =
       let a = c .args in
-      ItemEntry s (a .rules .now) (a .children .now) (a .units .now) (a .list .now) (a .over) (a .p)
+      ItemPre s (a .rules .now) (a .children .now) (a .units .now) (a .list .now) (a .over) (a .p)
 
   -- the list has a rule there
   some-rule : (c : At-expand) → start-of c .args .p .at < length (start-of c .args .list .now)
@@ -170,8 +170,8 @@ module _ (t : ℕ) where
       rule-room h (at-start .args .nonterminal) (some-rule (division-expand at-division)) (division-made at-division _ h)
 
   -- the parts are shorter than the interval
-  pub read-row-requires : read-tree-lts.Need-read-row-requires calls (read-tree-at t) read-tree.Post
-  read-row-requires c κs =
+  pub read-forest-requires : read-tree-lts.Need-read-forest-requires calls (read-tree-at t) read-tree.Post
+  read-forest-requires c κs =
       let at-division = c .before .before in
       let k = some-rule (division-expand at-division) in
       let at-start = start-of (division-expand at-division) in
@@ -204,4 +204,4 @@ module _ (t : ℕ) where
       let k = some-rule (division-expand at-division) in
       let q = start-of (division-expand at-division) .args .nonterminal in
       λ s h. let made = division-made at-division s h in
-      parts-walked h q k made _ _ (kids-are h q k made) (at-behind .behind2 .ensures) (c .read-row .result) (c .read-row .ensures s)
+      parts-walked h q k made _ _ (kids-are h q k made) (at-behind .behind2 .ensures) (c .read-forest .result) (c .read-forest .ensures s)

@@ -8,7 +8,7 @@ use Rattle.sheet.specs.Held.{partsOf, childCells}
 use Rattle.derivations.specs.Derivation.{Item, Price}
 use Rattle.derivations.specs.Reads.{Reads}
 use Rattle.derivations.specs.Reads as reading
-use Rattle.trees.specs.ValidTrees.{row, bars}
+use Rattle.trees.specs.ValidTrees.{adjoining, bars}
 use Rattle.trees.specs.Instance.{instanceOf}
 use Rattle.trees.specs.Room.{treeMost}
 use Rattle.expansions.specs.declared.Interval.{Interval}
@@ -66,7 +66,7 @@ abbrev pub NotPassed : Sheet → List ℕ → List Item → Progress → Type 0
 NotPassed s list gs p = reading.Stuck (instanceOf s) gs (p .carried) (drop (p .at) list)
 
 -- an item that is entered with the progress p
-pub record ItemEntry (s : Sheet) (cells children units list : List ℕ) (over : Interval) (p : Progress) : Type 0 where
+pub record ItemPre (s : Sheet) (cells children units list : List ℕ) (over : Interval) (p : Progress) : Type 0 where
   pub lent : Lent s cells children units
   pub within : over .left .0 + over .len .0 ≤ lastUnit
   pub in-bar : over .len .0 ≤ barUnits
@@ -80,21 +80,21 @@ ItemWalked s list q over p (Upto n) =
 
 -- intervals in a row under the nonterminals `kids`, the first of them `first`
 abbrev pub rowOf : Interval → List ℕ → List Item
-rowOf first kids = row (first .left .0) (first .len .0) kids
+rowOf first kids = adjoining (first .left .0) (first .len .0) kids
 
 abbrev pub endOf : Interval → List ℕ → ℕ
 endOf first kids = first .left .0 + length kids * first .len .0
 
-pub record RowEntry (s : Sheet) (cells children units list kids : List ℕ) (first : Interval) (p : Progress) : Type 0 where
+pub record ForestPre (s : Sheet) (cells children units list kids : List ℕ) (first : Interval) (p : Progress) : Type 0 where
   pub lent : Lent s cells children units
   pub within : endOf first kids ≤ lastUnit
   pub in-bar : first .len .0 ≤ barUnits
   pub from : p .from ≡ firstAt s (first .left .0)
   pub sized : Sized list p
 
-abbrev pub RowWalked : Sheet → List ℕ → List ℕ → Interval → Progress → Walk → Type 0
-RowWalked s list kids first p Stuck = NotPassed s list (rowOf first kids) p
-RowWalked s list kids first p (Upto n) = Passed s list (rowOf first kids) p n × (n .from ≡ firstAt s (endOf first kids))
+abbrev pub ForestWalked : Sheet → List ℕ → List ℕ → Interval → Progress → Walk → Type 0
+ForestWalked s list kids first p Stuck = NotPassed s list (rowOf first kids) p
+ForestWalked s list kids first p (Upto n) = Passed s list (rowOf first kids) p n × (n .from ≡ firstAt s (endOf first kids))
 
 -- before the first rule
 abbrev pub unread : Progress

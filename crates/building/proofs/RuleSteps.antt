@@ -12,7 +12,7 @@ use Rattle.sheet.specs.declared.clock.Units.{Units}
 use Rattle.sheet.specs.Sheet.{division, leaf, Sheet}
 use Rattle.sheet.specs.Good.{GoodRules}
 use Rattle.derivations.specs.Derivation.{Item, Expansion}
-use Rattle.derivations.specs.Table.{via}
+use Rattle.derivations.specs.Folds.{via}
 use Rattle.trees.specs.ValidTrees.{ruleAt, mayDivide, weightAt}
 use Rattle.trees.specs.Instance.{onsetsIn, atDivision, instanceOf}
 use Rattle.trees.specs.LeastTotal.{NONE}
@@ -21,7 +21,7 @@ use Rattle.trees.specs.Room.{good-division}
 use Rattle.plan.specs.Plan.{lengthAt, Divides}
 use Rattle.rows.specs.Slots.{itemAt}
 use Rattle.rows.specs.Rows.{partsAt}
-use Rattle.building.specs.Rebuilding.{behind, restTotal}
+use Rattle.building.specs.Contracts.{suffixCosts, restTotal}
 
 module _ (s : Sheet) (g : Item) (v : ℕ → ℕ) (c r : ℕ) where
   -- where the rule makes nothing of the item
@@ -30,7 +30,7 @@ module _ (s : Sheet) (g : Item) (v : ℕ → ℕ) (c r : ℕ) where
   total-none e = rw e refl
 
   pub total-some : (m : Expansion) → instanceOf s .expand g c r ≡ some m
-      → restTotal s g v c r ≡ s .grammar .multiplier * weightAt s r + m .distance + behind s (m .parts) v (m .carry)
+      → restTotal s g v c r ≡ s .grammar .multiplier * weightAt s r + m .distance + suffixCosts s (m .parts) v (m .carry)
   unfolding restTotal via instanceOf
   total-some m e = rw e refl
 
@@ -65,7 +65,7 @@ module _ (s : Sheet) (good : GoodRules (s .grammar)) (q l : ℕ) (left : Units) 
       ∙ rw part-is refl
 
   pub division-totals : (v : ℕ → ℕ) → restTotal s (itemAt s q l left) v c r
-      ≡ s .grammar .multiplier * weightAt s r + behind s (partsAt s h left (d .parts)) v c
+      ≡ s .grammar .multiplier * weightAt s r + suffixCosts s (partsAt s h left (d .parts)) v c
   division-totals v =
       total-some s (itemAt s q l left) v c r (record { parts = partsAt s h left (d .parts); carry = c; distance = 0 }) division-expanded
       ∙ omega arith

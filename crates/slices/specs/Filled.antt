@@ -9,13 +9,13 @@ use lib.Seq.{length-take-le, drop-set-lt, drop-drop, getD-set-same, getD-set-oth
 use Rattle.slices.specs.Over.{over, over-drop}
 
 -- ys is xs but for its first n cells, which are f 0, f 1 and so on
-pub record Table (f : ℕ → ℕ) (xs ys : List ℕ) (n : ℕ) : Type 0 where
+pub record Filled (f : ℕ → ℕ) (xs ys : List ℕ) (n : ℕ) : Type 0 where
   pub size : length ys ≡ length xs
   pub each : (i : ℕ) → i < n → getD ys i 0 ≡ f i
   pub rest : drop n ys ≡ drop n xs
 
-pub table-none : (f : ℕ → ℕ) (xs : List ℕ) → Table f xs xs 0
-table-none f xs = record { size = refl; each = λ i l. absurd (omega arith); rest = refl }
+pub filled-none : (f : ℕ → ℕ) (xs : List ℕ) → Filled f xs xs 0
+filled-none f xs = record { size = refl; each = λ i l. absurd (omega arith); rest = refl }
 
 -- lists that are equal past n are equal past any m behind it
 pub equal-further : {A : Type 0} (xs ys : List A) (n m : ℕ) → n ≤ m → drop n ys ≡ drop n xs → drop m ys ≡ drop m xs
@@ -24,8 +24,8 @@ equal-further xs ys n m h e =
     subst (λ i. drop i ys ≡ drop i xs) k (sym (drop-drop (m - n) n ys) ∙ ap (drop (m - n)) e ∙ drop-drop (m - n) n xs)
 
 -- one cell more
-pub table-more : {f : ℕ → ℕ} {xs ys : List ℕ} {n : ℕ} {v : ℕ} → Table f xs ys n → n < length xs → v ≡ f n → Table f xs (set ys n v) (n + 1)
-table-more {f} {xs} {ys} {n} {v} t l e =
+pub filled-more : {f : ℕ → ℕ} {xs ys : List ℕ} {n : ℕ} {v : ℕ} → Filled f xs ys n → n < length xs → v ≡ f n → Filled f xs (set ys n v) (n + 1)
+filled-more {f} {xs} {ys} {n} {v} t l e =
     let k : n < length ys = omega (arith, t .size) in
     record {
       size = length-set ys n v ∙ t .size;
@@ -34,9 +34,9 @@ table-more {f} {xs} {ys} {n} {v} t l e =
     }
 
 -- filled with one value, the slice has so many of it over its front; what stood there before does not matter
-pub table-over : (z : ℕ) (xs ys old : List ℕ) (n : ℕ) → Table (λ _. z) xs ys n → n ≤ length old → length xs ≡ length old
+pub filled-over : (z : ℕ) (xs ys old : List ℕ) (n : ℕ) → Filled (λ _. z) xs ys n → n ≤ length old → length xs ≡ length old
     → drop n xs ≡ drop n old → ys ≡ over (replicate n z) old
-table-over z xs ys old n t h size rest =
+filled-over z xs ys old n t h size rest =
     sym (take-append-drop n ys) ∙ ap₂ _++_ front (t .rest ∙ rest)
     ∙ sym (over-drop (replicate n z) old (omega (arith, length-replicate n z))
     ∙ ap (λ (k : ℕ). replicate n z ++ drop k old) (length-replicate n z))

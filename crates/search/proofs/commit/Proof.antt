@@ -1,10 +1,10 @@
--- `settle` meets its contract: the vectors that `backward` makes are those that the bars are built with. Assumes nothing.
+-- `commit` meets its contract: the vectors that `backward` makes are those that the bars are built with. Assumes nothing.
 use borrow.Author.Needs.{needs}
 use Rattle.sheet.specs.Sheet.{Sheet}
-use Rattle.search.specs.Search.{BarsBuildEntry, SettleEntry}
-use Rattle.search.proofs.SettleSteps.{settle-back, settle-build}
-use Rattle.search.proofs.settle.Statement.{statement}
-use Rattle.search.proofs.settle.Tie as tie
+use Rattle.search.specs.Contracts.{BarsBuildPre, CommitPre}
+use Rattle.search.proofs.CommitSteps.{commit-back, commit-build}
+use Rattle.search.proofs.commit.Statement.{statement}
+use Rattle.search.proofs.commit.Tie as tie
 
 -- ---- where the vectors are made
 
@@ -12,18 +12,18 @@ abbrev start-of : tie.After-backward → tie.Start
 start-of c = c .before .before .before .before .before .before
 
 entry : (c : tie.After-backward) (s : Sheet) → let a = start-of c .args in
-    SettleEntry s (a .plan .now) (a .units .now) (a .rows .now) (a .tree .now) (a .roots .now) (a .vectors .now) (a .start) (a .from)
+    CommitPre s (a .plan .now) (a .units .now) (a .rows .now) (a .tree .now) (a .roots .now) (a .vectors .now) (a .start) (a .from)
     (a .end) (a .n)
-    → BarsBuildEntry s (a .plan .now) (a .units .now) (a .rows .now) (a .tree .now) (c .backward .last .1 .0) (a .roots .now) (a .start)
+    → BarsBuildPre s (a .plan .now) (a .units .now) (a .rows .now) (a .tree .now) (c .backward .last .1 .0) (a .roots .now) (a .start)
     (a .from) (a .end) (a .n)
-entry c s h = settle-build h (c .backward .ensures s (settle-back h))
+entry c s h = commit-build h (c .backward .ensures s (commit-back h))
 
 -- ---- the needs
 
 backward-requires : tie.Need-backward-requires
 backward-requires c κs =
     let at-start = c .before .before .before .before .before in
-    (at-start .pre .0, settle-back (at-start .pre .1))
+    (at-start .pre .0, commit-back (at-start .pre .1))
 
 build-bars-requires : tie.Need-build-bars-requires
 build-bars-requires c κs =
@@ -46,8 +46,8 @@ returns c =
     let at-backward = at-build .before .before .before .before .before .before in
     λ s h. at-build .build-bars .ensures s (entry at-backward s h)
 
-pub settle-spec : {M : Type 1} → statement M
-settle-spec =
+pub commit-spec : {M : Type 1} → statement M
+commit-spec =
     tie.close
     (tie.spec
     backward-requires

@@ -10,8 +10,8 @@ use Rattle.sheet.specs.Sheet.{Sheet}
 use Rattle.sheet.specs.Good.{GoodRules}
 use Rattle.derivations.specs.Derivation.{Item}
 use Rattle.derivations.specs.Minima.{lowest, lowest-cap, lowest-le, lowest-at}
-use Rattle.derivations.specs.Table.{backward}
-use Rattle.derivations.specs.Serving.{Serves, serves-item}
+use Rattle.derivations.specs.Folds.{backward}
+use Rattle.derivations.specs.Interchange.{Interchangeable, interchangeable-item}
 use Rattle.trees.specs.Instance.{instanceOf}
 use Rattle.trees.specs.LeastTotal.{NONE, carries, cellOf}
 use Rattle.trees.specs.Laws.{lawful}
@@ -19,53 +19,53 @@ use Rattle.trees.specs.Found.{cells-least}
 use Rattle.plan.specs.Plan.{savedBy}
 use Rattle.rows.specs.SavedLaws.{cell-saved}
 use Rattle.rows.specs.IdleLaws.{Idle}
-use Rattle.building.specs.Rebuilding.{at, behind, Barred, Behind}
+use Rattle.building.specs.Contracts.{at, suffixCosts, Dominated, SuffixCosts}
 
 module _ (s : Sheet) (good : GoodRules (s .grammar)) where
   -- with an item in front nothing is above the cap
-  pub behind-low : (g : Item) (gs : List Item) (v : ℕ → ℕ) (c : ℕ) → behind s (g ∷ gs) v c ≤ NONE
+  pub suffix-low : (g : Item) (gs : List Item) (v : ℕ → ℕ) (c : ℕ) → suffixCosts s (g ∷ gs) v c ≤ NONE
   unfolding backward
-  behind-low g gs v c = lowest-cap NONE _ carries
+  suffix-low g gs v c = lowest-cap NONE _ carries
 
   -- from carry state 0 items total at most what they total from c, and what c can save
-  pub behind-saved : (g : Item) (gs : List Item) (v : ℕ → ℕ) (c : ℕ) → c < carries
-      → behind s (g ∷ gs) v 0 ≤ behind s (g ∷ gs) v c + savedBy s c
+  pub suffix-saved : (g : Item) (gs : List Item) (v : ℕ → ℕ) (c : ℕ) → c < carries
+      → suffixCosts s (g ∷ gs) v 0 ≤ suffixCosts s (g ∷ gs) v c + savedBy s c
   unfolding backward
-  behind-saved g gs v c hc = elim (decLt (behind s (g ∷ gs) v c) NONE) [
+  suffix-saved g gs v c hc = elim (decLt (suffixCosts s (g ∷ gs) v c) NONE) [
     | yes h ↦
-        let u : ℕ → ℕ = behind s gs v in
+        let u : ℕ → ℕ = suffixCosts s gs v in
         let (m, hm, e) = lowest-at NONE (λ i. cellOf s g c i + u i) carries h in
         omega (arith, e, lowest-le NONE (λ i. cellOf s g 0 i + u i) carries m hm, cell-saved s good c hc g m hm)
-    | no h ↦ omega (arith, behind-low g gs v 0)
+    | no h ↦ omega (arith, suffix-low g gs v 0)
   ]
 
   -- so no least list passes an idle carry state
-  pub idle-barred : (g : Item) (gs : List Item) (y v : ℕ → ℕ) (c : ℕ) → c < carries → Idle s y c → Barred s (g ∷ gs) y v c
-  idle-barred g gs y v c hc (inl h) = inl h
-  idle-barred g gs y v c hc (inr (_, h)) = inr (omega (arith, behind-saved g gs v c hc))
+  pub idle-dominated : (g : Item) (gs : List Item) (y v : ℕ → ℕ) (c : ℕ) → c < carries → Idle s y c → Dominated s (g ∷ gs) y v c
+  idle-dominated g gs y v c hc (inl h) = inl h
+  idle-dominated g gs y v c hc (inr (_, h)) = inr (omega (arith, suffix-saved g gs v c hc))
 
   -- an item with the totals y, and the vector w that stands for what is behind it
   module _ (g : Item) {rows : List ℕ} {gs : List Item} {y v w : List ℕ} (c : ℕ) (hc : c < carries)
-      (row : (m : ℕ) → m < carries → at y m ≡ cellOf s g c m) (b : Behind s rows gs y v w) (reached : behind s (g ∷ gs)
+      (row : (m : ℕ) → m < carries → at y m ≡ cellOf s g c m) (b : SuffixCosts s rows gs y v w) (reached : suffixCosts s (g ∷ gs)
       (at v) c < NONE) where
     abbrev goal : ℕ
-    goal = behind s (g ∷ gs) (at v) c
+    goal = suffixCosts s (g ∷ gs) (at v) c
 
     abbrev u : ℕ → ℕ
-    u = behind s gs (at v)
+    u = suffixCosts s gs (at v)
 
     goal-is : goal ≡ lowest NONE (λ m. cellOf s g c m + u m) carries
     unfolding backward
     goal-is = refl
 
-    pub serves-behind : Serves (instanceOf s) (s .grammar .multiplier) (g ∷ []) u (at w) c goal
-    serves-behind = serves-item (lawful s) (s .grammar .multiplier) NONE (cellOf s) (cells-least s good) g u
+    pub interchangeable-suffix : Interchangeable (instanceOf s) (s .grammar .multiplier) (g ∷ []) u (at w) c goal
+    interchangeable-suffix = interchangeable-item (lawful s) (s .grammar .multiplier) NONE (cellOf s) (cells-least s good) g u
         (at w) c goal hc goal-is reached apart
       where
         apart : (m : ℕ) → m < carries → (at w m ≡ u m) ⊎ ((goal < cellOf s g c m + u m) × (goal < cellOf s g c m + at w m))
         apart m hm = go (b .each m hm)
           where
-            go : (at w m ≡ u m) ⊎ (Barred s gs (at y) (at v) m × (NONE ≤ at w m))
+            go : (at w m ≡ u m) ⊎ (Dominated s gs (at y) (at v) m × (NONE ≤ at w m))
                 → (at w m ≡ u m) ⊎ ((goal < cellOf s g c m + u m) × (goal < cellOf s g c m + at w m))
             go (inl e) = inl e
             go (inr (inl h, k)) = inr (omega (arith, row m hm), omega arith)
@@ -75,15 +75,15 @@ module _ (s : Sheet) (good : GoodRules (s .grammar)) where
             )
 
     -- and the item's least total with w behind it is the same
-    pub serves-reached : behind s (g ∷ []) (at w) c < NONE
+    pub interchangeable-reached : suffixCosts s (g ∷ []) (at w) c < NONE
     unfolding backward
-    serves-reached = go (lowest-at NONE (λ m. cellOf s g c m + u m) carries (omega (arith, goal-is)))
+    interchangeable-reached = go (lowest-at NONE (λ m. cellOf s g c m + u m) carries (omega (arith, goal-is)))
       where
         go : (m : ℕ) × (m < carries) × (lowest NONE (λ i. cellOf s g c i + u i) carries ≡ cellOf s g c m + u m)
             → lowest NONE (λ m. cellOf s g c m + at w m) carries < NONE
         go (m, hm, e) = by (b .each m hm)
           where
-            by : (at w m ≡ u m) ⊎ (Barred s gs (at y) (at v) m × (NONE ≤ at w m))
+            by : (at w m ≡ u m) ⊎ (Dominated s gs (at y) (at v) m × (NONE ≤ at w m))
                 → lowest NONE (λ m. cellOf s g c m + at w m) carries < NONE
             by (inl k) = omega (arith, k, e, goal-is, lowest-le NONE (λ i. cellOf s g c i + at w i) carries m hm)
             by (inr (inl h, k)) = absurd (omega (arith, e, goal-is, row m hm))

@@ -1,4 +1,4 @@
--- Writing the first least list of an item, from its row and the vector behind it. What the functions are given, and what they give.
+-- Writing the first least list of an item, from its row and the suffix costs behind it. What the functions are given, and what they give.
 use Prim.Native.Nat.{ℕ, _+_, _*_, _≤_, _<_}
 use mathlib.Core.Path.{_≡_}
 use mathlib.Core.List.{List, [], _∷_, _++_}
@@ -11,8 +11,8 @@ use Rattle.derivations.specs.Derivation.{Item, Price, _⊞_}
 use Rattle.derivations.specs.Bound.{sumOf}
 use Rattle.derivations.specs.Minima.{FirstPlace}
 use Rattle.derivations.specs.First.{First}
-use Rattle.derivations.specs.Table.{ruleTotal, backward}
-use Rattle.trees.specs.ValidTrees.{row}
+use Rattle.derivations.specs.Folds.{ruleTotal, backward}
+use Rattle.trees.specs.ValidTrees.{adjoining}
 use Rattle.trees.specs.Instance.{instanceOf}
 use Rattle.trees.specs.LeastTotal.{NONE, carries, cellOf}
 use Rattle.trees.specs.Room.{room}
@@ -24,30 +24,30 @@ use Rattle.rows.specs.Slots.{itemAt, Sound}
 use Rattle.rows.specs.Rows.{Entry, PartsEntry, partsAt}
 use Rattle.building.specs.declared.Built.{Built}
 
--- ---- vectors behind items
+-- ---- suffix costs behind items
 
 -- a vector, as a function of carry states
 abbrev pub at : List ℕ → ℕ → ℕ
 at v m = getD v m 0
 
--- what items in a row total with the vector v behind them, by the carry state that they are entered with
-abbrev pub behind : Sheet → List Item → (ℕ → ℕ) → ℕ → ℕ
-behind s gs v = backward carries NONE (cellOf s) gs v
+-- what items in a row total with the suffix costs v behind them, by the carry state that they are entered with
+abbrev pub suffixCosts : Sheet → List Item → (ℕ → ℕ) → ℕ → ℕ
+suffixCosts s gs v = backward carries NONE (cellOf s) gs v
 
 -- the parts of a division from part j on
 abbrev pub partsFrom : Sheet → (l : ℕ) → Units → List ℕ → ℕ → List Item
-partsFrom s l left kids j = row (left .0 + j * lengthAt s l) (lengthAt s l) (drop j kids)
+partsFrom s l left kids j = adjoining (left .0 + j * lengthAt s l) (lengthAt s l) (drop j kids)
 
 -- no least list passes carry state m between an item with the totals y and the items behind it: there is none to m, or through 0 is cheaper
-abbrev pub Barred : Sheet → List Item → (y v : ℕ → ℕ) → ℕ → Type 0
-Barred s gs y v m = (NONE ≤ y m) ⊎ (y 0 + behind s gs v 0 < y m + behind s gs v m)
+abbrev pub Dominated : Sheet → List Item → (y v : ℕ → ℕ) → ℕ → Type 0
+Dominated s gs y v m = (NONE ≤ y m) ⊎ (y 0 + suffixCosts s gs v 0 < y m + suffixCosts s gs v m)
 
 -- w is what the items total with v behind them, or the cap where no least list passes
 abbrev pub Passed : Sheet → List Item → (y v : ℕ → ℕ) → (m w : ℕ) → Type 0
-Passed s gs y v m w = (w ≡ behind s gs v m) ⊎ (Barred s gs y v m × (NONE ≤ w))
+Passed s gs y v m w = (w ≡ suffixCosts s gs v m) ⊎ (Dominated s gs y v m × (NONE ≤ w))
 
 -- the parts of rule r from part i on, k of the length with index l from `left` on, behind an item with the totals y
-pub record BehindEntry (s : Sheet) (plan units rows : List ℕ) (bar : Bar) (r i k l : ℕ) (left : Units) (from c : ℕ) (y v : List ℕ) : Type 0
+pub record SuffixPre (s : Sheet) (plan units rows : List ℕ) (bar : Bar) (r i k l : ℕ) (left : Units) (from c : ℕ) (y v : List ℕ) : Type 0
   where
     pub parts : PartsEntry s plan units rows bar r i k l left from c
     pub low-row : Low y
@@ -59,27 +59,27 @@ pub record PassedAs (s : Sheet) (rows : List ℕ) (gs : List Item) (y v : List �
   pub low : w ≤ NONE
   pub sound : Sound s rows
 
--- w is the vector before those parts
-pub record Behind (s : Sheet) (rows : List ℕ) (gs : List Item) (y v w : List ℕ) : Type 0 where
+-- w is the suffix costs before those parts
+pub record SuffixCosts (s : Sheet) (rows : List ℕ) (gs : List Item) (y v w : List ℕ) : Type 0 where
   pub each : (m : ℕ) → m < carries → Passed s gs (at y) (at v) m (at w m)
   pub low : Low w
   pub sound : Sound s rows
 
 -- ---- choosing a rule
 
--- what rule r totals at an item from carry state c, with the vector v behind it
+-- what rule r totals at an item from carry state c, with the suffix costs v behind it
 unfoldable pub restTotal : Sheet → Item → (ℕ → ℕ) → (c r : ℕ) → ℕ
-restTotal s g v c r = ruleTotal (instanceOf s) (s .grammar .multiplier) NONE (λ parts. behind s parts v) g c r
+restTotal s g v c r = ruleTotal (instanceOf s) (s .grammar .multiplier) NONE (λ parts. suffixCosts s parts v) g c r
 
 -- r is the first rule at the item that comes to the least total, and there is one
 pub record Chosen (s : Sheet) (g : Item) (v : ℕ → ℕ) (c r : ℕ) : Type 0 where
   pub place : FirstPlace (restTotal s g v c) (ruleCount s) r
-  pub total : restTotal s g v c r ≡ behind s (g ∷ []) v c
-  pub reached : behind s (g ∷ []) v c < NONE
+  pub total : restTotal s g v c r ≡ suffixCosts s (g ∷ []) v c
+  pub reached : suffixCosts s (g ∷ []) v c < NONE
 
 -- ---- building
 
--- the first least list of the items from c on, with the vector v behind them, is written to the tree from `to` on
+-- the first least list of the items from c on, with the suffix costs v behind them, is written to the tree from `to` on
 pub record BuiltAs (s : Sheet) (rows tree after : List ℕ) (gs : List Item) (v : ℕ → ℕ) (c to : ℕ) (b : Built) : Type 0 where
   pub bytes : List ℕ
   pub price : Price
@@ -90,20 +90,20 @@ pub record BuiltAs (s : Sheet) (rows tree after : List ℕ) (gs : List Item) (v 
   pub sound : Sound s rows
 
 -- an item is built, of which y is the row
-pub record BuildEntry (s : Sheet) (plan units rows tree : List ℕ) (bar : Bar) (q l : ℕ) (left : Units) (from c : ℕ) (y v : List ℕ) (to : ℕ)
+pub record BuildPre (s : Sheet) (plan units rows tree : List ℕ) (bar : Bar) (q l : ℕ) (left : Units) (from c : ℕ) (y v : List ℕ) (to : ℕ)
     : Type 0 where
   pub entry : Entry s plan units rows bar q l left from c
   pub row-is : y ≡ vec (packedCell s (itemAt s q l left) c)
   pub low : Low v
-  pub reached : behind s (itemAt s q l left ∷ []) (at v) c < NONE
+  pub reached : suffixCosts s (itemAt s q l left ∷ []) (at v) c < NONE
   pub fits : to + room s (itemAt s q l left) ≤ length tree
 
 -- the parts of a rule are built
-pub record PartsBuildEntry (s : Sheet) (plan units rows tree : List ℕ) (bar : Bar) (r k l : ℕ) (left : Units) (from c : ℕ) (v : List ℕ)
+pub record PartsBuildPre (s : Sheet) (plan units rows tree : List ℕ) (bar : Bar) (r k l : ℕ) (left : Units) (from c : ℕ) (v : List ℕ)
     (to : ℕ) : Type 0 where
   pub parts : PartsEntry s plan units rows bar r 0 k l left from c
   pub low : Low v
-  pub reached : behind s (partsAt s l left (parts .divides .parts)) (at v) c < NONE
+  pub reached : suffixCosts s (partsAt s l left (parts .divides .parts)) (at v) c < NONE
   pub fits : to + sumOf (room s) (partsAt s l left (parts .divides .parts)) ≤ length tree
 
 -- Building a row of items `gs` from left to right: `rest` is to come. What is written is the front of the first least list, whatever the
@@ -115,7 +115,7 @@ pub record Partway (s : Sheet) (tree after : List ℕ) (gs rest : List Item) (v 
   pub few : carry < carries
   pub and-then : (xs : List ℕ) (q : Price) → First (instanceOf s) (s .grammar .multiplier) rest v carry xs q
       → First (instanceOf s) (s .grammar .multiplier) gs v c (bytes ++ xs) (price ⊞ q)
-  pub reached : behind s rest v carry < NONE
+  pub reached : suffixCosts s rest v carry < NONE
   pub next-is : next ≡ to + length bytes
   pub written : after ≡ overFrom to bytes tree
   pub fits : next + sumOf (room s) rest ≤ length tree
