@@ -22,7 +22,7 @@ use Rattle.slices.specs.Every.{Every}
 use Rattle.sheet.specs.declared.table.Reading.{Reading}
 use Rattle.sheet.specs.Sheet.{Sheet}
 use Rattle.sheet.specs.Outcome.{refused}
-use Rattle.sheet.specs.Held.{readingOf, Reads}
+use Rattle.sheet.specs.Held.{grammarTable, playingTable, readingOf, Reads}
 use Rattle.sheet.specs.Accepted.{Refuses, Accepts}
 use Rattle.sizes.specs.Sizes.{treeBytes, workCells}
 use Rattle.trees.specs.ValidTrees.{ValidTree, Priced, totalOf, entries, KindFits}
@@ -67,9 +67,11 @@ module _ (text : List ℕ) (k n : ℕ) (faulty : Refuses text k n) where
 -- "a short slice or a list that is no tree is refused with the paper's number, no result besides, tree and score slices untouched. Apart
 -- from these and a sheet that has no tree, nothing is refused": of an accepted text, each answer under its condition
 module _ (text : List ℕ) (s : Sheet) (a : Accepts text s) where
-  pub read-answers : (r : Reading) → Reads text r → (r .number ≡ 0) × (r .line ≡ 0)
+  pub read-answers : (r : Reading) → Reads text r
+      → (r .number ≡ 0) × (r .line ≡ 0) × (r .grammar ≡ grammarTable (s .grammar)) × (r .playing ≡ playingTable (s .playing))
   unfolding readingOf
-  read-answers r h = let e = h ∙ ap readingOf (a .1) in (ap (λ (x : Reading). x .number) e, ap (λ (x : Reading). x .line) e)
+  read-answers r h = let e = h ∙ ap readingOf (a .1) in
+      (ap (λ (x : Reading). x .number) e, ap (λ (x : Reading). x .line) e, ap (λ (x : Reading). x .grammar) e, ap (λ (x : Reading). x .playing) e)
 
   pub price-answers : (list : List ℕ) (r : answer.Priced) → Prices text list r
       → ((ValidTree s list → ⊥) × (r ≡ refusedAs 12 0)) ⊎ (ValidTree s list × (r .number ≡ 0))

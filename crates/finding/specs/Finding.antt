@@ -17,8 +17,8 @@ use Rattle.trees.specs.Found.{LeastTree}
 use Rattle.pricing.specs.declared.Priced.{Priced}
 use Rattle.pricing.specs.Pricing.{priced, pricedOf}
 
--- Whether some list of bytes, of any length, is a valid tree, by computing. `FindingLaws` shows that it is so: `has-tree` and `some-tree`,
--- `has-none` and `no-valid-tree`.
+-- Whether some list of bytes, of any length, is a valid tree, by computing. `FindingLaws` shows that it is so: `has-tree`, `some-tree`,
+-- `has-none`.
 unfoldable pub hasTree : Sheet → Bool
 hasTree s = ltb (leastTotal s) NONE
 
@@ -43,6 +43,7 @@ abbrev pub treeOf : Search → Outcome Sheet
 treeOf (noTree s) = refused 11 0
 treeOf (found s) = accepted s
 
+-- the number and the line: a refusal's, 11, or those of an accepted call
 abbrev pub numberOf : Outcome Search → ℕ
 numberOf o = numberIn (andThen o treeOf)
 
