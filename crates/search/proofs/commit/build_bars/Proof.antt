@@ -12,8 +12,8 @@ use Rattle.building.specs.Contracts.{BuildPre}
 use Rattle.search.specs.Contracts.{BarsBuildPre}
 use Rattle.search.proofs.EnterSteps.{few-bars, bar-enter}
 use Rattle.search.proofs.BarSteps.{InBars, in-bars-none, bar-carry, root-room, vector-room, bar-build, in-bars-more, in-bars-all}
-use Rattle.search.proofs.build_bars.Statement.{statement}
-use Rattle.search.proofs.build_bars.Tie as tie
+use Rattle.search.proofs.commit.build_bars.Statement.{statement}
+use Rattle.search.proofs.commit.build_bars.Tie as tie
 
 abbrev Inv-loop : tie.InvT-loop
 Inv-loop plan units rows₀ tree₀ vectors roots start from end n slots next₀ carry₀ b₀ rows tree next carry b =

@@ -3,8 +3,8 @@
 use native.Mathlib.Omega.{arith}
 use borrow.Author.Needs.{needs}
 use Rattle.search.proofs.SearchSteps.{product-small, product-is}
-use Rattle.search.proofs.row_cells.Statement.{statement}
-use Rattle.search.proofs.row_cells.Tie as tie
+use Rattle.search.proofs.bars.row_cells.Statement.{statement}
+use Rattle.search.proofs.bars.row_cells.Tie as tie
 
 nonterminals-requires : tie.Need-nonterminals-requires
 nonterminals-requires c κs = search needs

@@ -11,8 +11,8 @@ use Rattle.trees.specs.LeastTotal.{NONE, carries}
 use Rattle.rows.specs.Memo.{rowAt}
 use Rattle.search.specs.Contracts.{SuffixStepPre}
 use Rattle.search.proofs.BackSteps.{suffix-step-asked, suffix-step-cell, suffix-step-all}
-use Rattle.search.proofs.suffix_step.Statement.{statement}
-use Rattle.search.proofs.suffix_step.Tie as tie
+use Rattle.search.proofs.commit.suffix_step.Statement.{statement}
+use Rattle.search.proofs.commit.suffix_step.Tie as tie
 
 -- ---- places
 

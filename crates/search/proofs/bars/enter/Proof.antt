@@ -3,8 +3,8 @@
 use native.Mathlib.Omega.{arith}
 use borrow.Author.Needs.{needs}
 use Rattle.search.proofs.EnterSteps.{enter-product, enter-from, enter-near, enter-bar}
-use Rattle.search.proofs.enter.Statement.{statement}
-use Rattle.search.proofs.enter.Tie as tie
+use Rattle.search.proofs.bars.enter.Statement.{statement}
+use Rattle.search.proofs.bars.enter.Tie as tie
 
 cast-lo : tie.Need-cast-lo
 cast-lo c = search needs

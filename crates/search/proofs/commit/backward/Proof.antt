@@ -10,8 +10,8 @@ use Rattle.rows.specs.VectorLaws.{only-low}
 use Rattle.search.specs.Contracts.{BackwardPre, SuffixStep}
 use Rattle.search.proofs.PassSteps.{length-stored}
 use Rattle.search.proofs.BackSteps.{Backward, back-again, back-stored, backward-none, backward-entry, backward-room, backward-more}
-use Rattle.search.proofs.backward.Statement.{statement}
-use Rattle.search.proofs.backward.Tie as tie
+use Rattle.search.proofs.commit.backward.Statement.{statement}
+use Rattle.search.proofs.commit.backward.Tie as tie
 
 abbrev Inv-loop : tie.InvT-loop
 Inv-loop roots vectors₀ from end v₀ b₀ vectors v b =

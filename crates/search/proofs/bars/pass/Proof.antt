@@ -10,8 +10,8 @@ use Rattle.search.specs.Contracts.{PassPre, RootsTo, Rooted}
 use Rattle.search.proofs.EnterSteps.{pass-few, pass-low, pass-again}
 use Rattle.search.proofs.PassSteps.{totals-low, Passing, passing-none, passing-all, passing-room, passing-stored, passing-row}
 use Rattle.search.proofs.PassSteps.{passing-more}
-use Rattle.search.proofs.pass.Statement.{statement}
-use Rattle.search.proofs.pass.Tie as tie
+use Rattle.search.proofs.bars.pass.Statement.{statement}
+use Rattle.search.proofs.bars.pass.Tie as tie
 
 abbrev Inv-loop : tie.InvT-loop
 Inv-loop plan units rows₀ roots₀ bar start v at o₀ c₀ rows roots o c =

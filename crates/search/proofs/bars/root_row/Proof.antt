@@ -1,8 +1,8 @@
 -- `root_row` meets its contract: an idle carry state has no tree, and any other the row of the item over the bar. Assumes nothing.
 use borrow.Author.Needs.{needs}
 use Rattle.search.proofs.EnterSteps.{pass-low, pass-idle, pass-cells, pass-rooted}
-use Rattle.search.proofs.root_row.Statement.{statement}
-use Rattle.search.proofs.root_row.Tie as tie
+use Rattle.search.proofs.bars.root_row.Statement.{statement}
+use Rattle.search.proofs.bars.root_row.Tie as tie
 
 idle-requires : tie.Need-idle-requires
 idle-requires c κs =

@@ -3,8 +3,8 @@ use borrow.Author.Needs.{needs}
 use Rattle.sheet.specs.Sheet.{Sheet}
 use Rattle.search.specs.Contracts.{BarsBuildPre, CommitPre}
 use Rattle.search.proofs.CommitSteps.{commit-back, commit-build}
-use Rattle.search.proofs.commit.Statement.{statement}
-use Rattle.search.proofs.commit.Tie as tie
+use Rattle.search.proofs.commit.commit.Statement.{statement}
+use Rattle.search.proofs.commit.commit.Tie as tie
 
 -- ---- where the vectors are made
 

@@ -3,8 +3,8 @@ use mathlib.Core.Bool.{false≢true}
 use native.Mathlib.Omega.{arith}
 use Rattle.search.proofs.CommitSteps.{is-cut-point-told}
 use borrow.Author.Needs.{needs}
-use Rattle.search.proofs.is_cut_point.Statement.{statement}
-use Rattle.search.proofs.is_cut_point.Tie as tie
+use Rattle.search.proofs.commit.is_cut_point.Statement.{statement}
+use Rattle.search.proofs.commit.is_cut_point.Tie as tie
 
 array-read-if1 : tie.Need-array-read-if1
 array-read-if1 c = search needs
