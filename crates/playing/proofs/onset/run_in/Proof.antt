@@ -1,8 +1,8 @@
 -- `run_in` meets its contract. Assumes nothing.
 use borrow.Author.Tests.{eq-eqb, ne-eqb}
 use Rattle.playing.specs.Contracts.{runIn}
-use Rattle.playing.proofs.run_in.Statement.{statement}
-use Rattle.playing.proofs.run_in.Tie as tie
+use Rattle.playing.proofs.onset.run_in.Statement.{statement}
+use Rattle.playing.proofs.onset.run_in.Tie as tie
 
 returns : tie.Need-returns
 unfolding runIn

@@ -3,8 +3,8 @@ use borrow.Author.Needs.{needs}
 use Rattle.sheet.specs.Reading.{momentRefusal}
 use Rattle.sheet.specs.Clock.{end-fits}
 use Rattle.sheet.specs.Demands.{demands}
-use Rattle.playing.proofs.moment_refusal.Statement.{statement}
-use Rattle.playing.proofs.moment_refusal.Tie as tie
+use Rattle.playing.proofs.onset.moment_refusal.Statement.{statement}
+use Rattle.playing.proofs.onset.moment_refusal.Tie as tie
 
 returns : tie.Need-returns
 unfolding momentRefusal

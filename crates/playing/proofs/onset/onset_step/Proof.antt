@@ -14,8 +14,8 @@ use Rattle.sheet.specs.SoFar.{GoodSoFar}
 use Rattle.sheet.specs.Laws.{moment-passed, room-passed}
 use Rattle.playing.specs.Contracts.{timingIn, latestOf}
 use Rattle.playing.proofs.OnsetSteps.{other-line, stopped, by-form, by-moment, by-room, moment-is, here-is, run-more}
-use Rattle.playing.proofs.onset_step.Statement.{statement}
-use Rattle.playing.proofs.onset_step.Tie as tie
+use Rattle.playing.proofs.onset.onset_step.Statement.{statement}
+use Rattle.playing.proofs.onset.onset_step.Tie as tie
 
 -- where the room has been asked for: the call, and its line, timing and unit
 abbrev start-of : tie.After-room-refusal → tie.Start

@@ -1,8 +1,8 @@
 -- `room_refusal` meets its contract: each return has passed the demands before it. Assumes nothing.
 use Rattle.sheet.specs.Reading.{roomRefusal}
 use Rattle.sheet.specs.Demands.{demands}
-use Rattle.playing.proofs.room_refusal.Statement.{statement}
-use Rattle.playing.proofs.room_refusal.Tie as tie
+use Rattle.playing.proofs.onset.room_refusal.Statement.{statement}
+use Rattle.playing.proofs.onset.room_refusal.Tie as tie
 
 returns : tie.Need-returns
 unfolding roomRefusal

@@ -2,8 +2,8 @@
 use borrow.Author.Needs.{needs}
 use Rattle.sheet.specs.Reading.{onsetForm}
 use Rattle.sheet.specs.Demands.{demands}
-use Rattle.playing.proofs.form_refusal.Statement.{statement}
-use Rattle.playing.proofs.form_refusal.Tie as tie
+use Rattle.playing.proofs.onset.form_refusal.Statement.{statement}
+use Rattle.playing.proofs.onset.form_refusal.Tie as tie
 
 returns : tie.Need-returns
 unfolding onsetForm
