@@ -2,8 +2,8 @@
 use borrow.Author.Needs.{needs}
 use Rattle.sheet.specs.Reading.{headRefusal}
 use Rattle.sheet.specs.Demands.{demands}
-use Rattle.grammar.proofs.head_refusal.Statement.{statement}
-use Rattle.grammar.proofs.head_refusal.Tie as tie
+use Rattle.grammar.proofs.refusal.head_refusal.Statement.{statement}
+use Rattle.grammar.proofs.refusal.head_refusal.Tie as tie
 
 returns : tie.Need-returns
 unfolding headRefusal

@@ -3,8 +3,8 @@ use borrow.Author.Needs.{needs}
 use mathlib.Core.Path.{sym, _∙_}
 use Rattle.sheet.specs.Reading.{divisionRefusal}
 use Rattle.sheet.specs.Demands.{demands, pass-below, fail-below}
-use Rattle.grammar.proofs.division_refusal.Statement.{statement}
-use Rattle.grammar.proofs.division_refusal.Tie as tie
+use Rattle.grammar.proofs.refusal.division_refusal.Statement.{statement}
+use Rattle.grammar.proofs.refusal.division_refusal.Tie as tie
 
 returns : tie.Need-returns
 unfolding divisionRefusal

@@ -2,8 +2,8 @@
 use borrow.Author.Needs.{needs}
 use borrow.Author.Tests.{eq-eqb, ne-eqb}
 use Rattle.sheet.specs.Reading.{ruleRefusal}
-use Rattle.grammar.proofs.rule_refusal.Statement.{statement}
-use Rattle.grammar.proofs.rule_refusal.Tie as tie
+use Rattle.grammar.proofs.refusal.rule_refusal.Statement.{statement}
+use Rattle.grammar.proofs.refusal.rule_refusal.Tie as tie
 
 element-copy-out-kind : tie.Need-element-copy-out-kind
 element-copy-out-kind c = search needs

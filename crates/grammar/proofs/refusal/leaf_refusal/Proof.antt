@@ -2,8 +2,8 @@
 use borrow.Author.Needs.{needs}
 use Rattle.sheet.specs.Reading.{leafRefusal}
 use Rattle.sheet.specs.Demands.{demands}
-use Rattle.grammar.proofs.leaf_refusal.Statement.{statement}
-use Rattle.grammar.proofs.leaf_refusal.Tie as tie
+use Rattle.grammar.proofs.refusal.leaf_refusal.Statement.{statement}
+use Rattle.grammar.proofs.refusal.leaf_refusal.Tie as tie
 
 returns : tie.Need-returns
 unfolding leafRefusal

@@ -6,8 +6,8 @@ use Prim.Native.Nat.{ℕ, _+_, _-_, _≤_}
 use mathlib.Core.Path.{_≡_, ap, _∙_, sym}
 use Rattle.sheet.specs.Reading.{allBelow, bytesFrom}
 use Rattle.grammar.proofs.Flats.{bytes-step, below-yes, below-no}
-use Rattle.grammar.proofs.all_below.Statement.{statement}
-use Rattle.grammar.proofs.all_below.Tie as tie
+use Rattle.grammar.proofs.refusal.all_below.Statement.{statement}
+use Rattle.grammar.proofs.refusal.all_below.Tie as tie
 
 abbrev Inv-loop : tie.InvT-loop
 Inv-loop q k l j₀ j = (j ≤ k) × (allBelow q (bytesFrom k 5 l) ≡ allBelow q (bytesFrom (k - j) (j + 5) l))

@@ -1,8 +1,8 @@
 -- `end_refusal` meets its contract. Assumes nothing.
 use borrow.Author.Needs.{needs}
 use borrow.Author.Tests.{lt-ltb, le-ltb}
-use Rattle.grammar.proofs.end_refusal.Statement.{statement}
-use Rattle.grammar.proofs.end_refusal.Tie as tie
+use Rattle.grammar.proofs.refusal.end_refusal.Statement.{statement}
+use Rattle.grammar.proofs.refusal.end_refusal.Tie as tie
 
 returns : tie.Need-returns
 returns c = simp (le-ltb 0 (c .before .args .count) (search needs))
