@@ -2,8 +2,8 @@
 use borrow.Author.Tests.{eq-eqb, ne-eqb}
 use Rattle.expansions.specs.Tables.{unpackedOf}
 use borrow.Author.Needs.{needs}
-use Rattle.expansions.proofs.unpacked.Statement.{statement}
-use Rattle.expansions.proofs.unpacked.Tie as tie
+use Rattle.expansions.proofs.packed.unpacked.Statement.{statement}
+use Rattle.expansions.proofs.packed.unpacked.Tie as tie
 
 cast-head : tie.Need-cast-head
 cast-head c = search needs

@@ -8,8 +8,8 @@ use lib.Dec.{eqb}
 use Rattle.sheet.specs.declared.table.Rule.the-variants.{Division, Leaf}
 use Rattle.expansions.specs.Tables.{unpackedOf}
 use borrow.Author.Needs.{needs}
-use Rattle.expansions.proofs.packed.Statement.{statement}
-use Rattle.expansions.proofs.packed.Tie as tie
+use Rattle.expansions.proofs.packed.packed.Statement.{statement}
+use Rattle.expansions.proofs.packed.packed.Tie as tie
 
 -- the three fields of a number, whose last digit is b
 record Fields (x h w k : ℕ) : Type 0 where

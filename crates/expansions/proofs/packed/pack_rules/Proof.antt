@@ -14,8 +14,8 @@ use Rattle.sheet.specs.Held.{ruleCell, noRule, grammarTable}
 use Rattle.sheet.specs.declared.table.GrammarTable.{GrammarTable}
 use Rattle.expansions.specs.Tables.{unpackedOf, PackedRules}
 use Rattle.expansions.specs.RuleCells.{cell-in}
-use Rattle.expansions.proofs.pack_rules.Statement.{statement}
-use Rattle.expansions.proofs.pack_rules.Tie as tie
+use Rattle.expansions.proofs.packed.pack_rules.Statement.{statement}
+use Rattle.expansions.proofs.packed.pack_rules.Tie as tie
 
 -- the first i cells hold the rules of the table
 record Cells (g : GrammarTable) (out : List ℕ) (i : ℕ) : Type 0 where

@@ -15,8 +15,8 @@ use Rattle.sheet.specs.Sheet.{Onset, Playing}
 use Rattle.sheet.specs.Good.{GoodOnsets}
 use Rattle.sheet.specs.Held.{units, unitsOf, playingTable}
 use Rattle.expansions.specs.Tables.{lastUnit, unitIn, unitCells}
-use Rattle.expansions.proofs.pack_units.Statement.{statement}
-use Rattle.expansions.proofs.pack_units.Tie as tie
+use Rattle.expansions.proofs.packed.pack_units.Statement.{statement}
+use Rattle.expansions.proofs.packed.pack_units.Tie as tie
 
 abbrev none : Onset
 none = record { unit = 0; pitch = 0 }
