@@ -1,10 +1,10 @@
--- `sizes::divisor` meets its contract: the code's table is `divisors`, entry by entry.
+-- `divisor` meets its contract: the code's table is `divisors`, entry by entry.
 -- Assumes nothing.
 use mathlib.Core.Path.{refl}
 use borrow.Author.Needs.{needs}
 use Rattle.sizes.specs.Sizes.{divisors}
-use Rattle.sizes.proofs.divisor.Statement.{statement}
-use Rattle.sizes.proofs.divisor.Tie as tie
+use Rattle.sizes.proofs.divisors.divisor.Statement.{statement}
+use Rattle.sizes.proofs.divisors.divisor.Tie as tie
 
 mul-d : tie.Need-mul-d
 mul-d c = search needs
