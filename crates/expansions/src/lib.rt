@@ -1,30 +1,21 @@
-// One rule at one item of a sheet, computed: what a leaf places and carries on, whether a division is allowed. The tables that this reads
-// are lent as arrays of numbers, since a reference to structs is not covered: rules packed one a cell, and units as plain numbers.
+// One rule at one item of a sheet, computed: what a leaf places and carries on, whether a division is allowed.
 ghost use mathlib.Core.Path.{_≡_};
-ghost use Prim.Native.Nat.{_+_, _<_, _≤_};
-ghost use lib.ListN.{getD};
-ghost use Rattle.sheet.specs.Sheet.{Sheet, Grammar, Playing};
-ghost use Rattle.sheet.specs.Good.{GoodOnsets};
-ghost use Rattle.sheet.specs.Held.{grammarTable, playingTable};
+ghost use Rattle.sheet.specs.Sheet.{Sheet};
 ghost use Rattle.trees.specs.ValidTrees.{token};
-ghost use Rattle.expansions.specs.Tables.{unpackedOf, PackedRules, unitCells};
 ghost use Rattle.expansions.specs.Items.{Here, Entered, PlacedAt, At, itemOf, AsLeaf, AsDivision, Expands};
-use sheet::GrammarTable;
-use sheet::ONSETS_MOST;
-use sheet::PIECE_UNITS;
-use sheet::PlayingTable;
+
+mod packed;
+
+pub use packed::PackedRules;
+pub use packed::PackedUnits;
+pub use packed::UNIT_CELLS;
+pub use packed::pack_rules;
+pub use packed::pack_units;
+pub use packed::rule_at;
+pub use packed::unpacked;
 use sheet::RULES_MOST;
 use sheet::Rule;
 use sheet::Units;
-
-// A grammar's rules, one a cell.
-pub type PackedRules = [u64; RULES_MOST];
-
-// The cells of the units: one an onset, and one more, so that there is always one behind them.
-pub const UNIT_CELLS: usize = ONSETS_MOST + 1;
-
-// The units of a playing's onsets as plain numbers.
-pub type PackedUnits = [u32; UNIT_CELLS];
 
 // An interval, by its left bound, counted from the first bar, and its length.
 pub struct Interval {
@@ -52,79 +43,6 @@ pub enum Expansion {
         weight: u64,
         arity: u32,
     },
-}
-
-// A rule as one number: 1 for a leaf or 0 for a division, then head, weight, and n or the arity.
-fn packed(rule: Rule) -> u64
-    ensures { λ r. ⌜ unpackedOf r ≡ rule ⌝ }
-{
-    match rule {
-        Rule::Division {
-            head,
-            weight,
-            arity,
-        } => 2 * (head as u64) + 512 * (weight as u64) + 33554432 * (arity as u64),
-        Rule::Leaf { head, weight, n } => {
-            1 + 2 * (head as u64) + 512 * (weight as u64) + 33554432 * (n as u64)
-        }
-    }
-}
-
-// The rule that a number stands for.
-pub fn unpacked(cell: u64) -> Rule
-    ensures { λ r. ⌜ r ≡ unpackedOf cell ⌝ }
-{
-    let head = (cell / 2 % 256) as u8;
-    let weight = (cell / 512 % 65536) as u16;
-    let n = (cell / 33554432 % 256) as u8;
-    if cell % 2 == 1 {
-        return Rule::Leaf { head, weight, n };
-    }
-    Rule::Division {
-        head,
-        weight,
-        arity: n,
-    }
-}
-
-// The rule at a place of the packed rules.
-pub fn rule_at(rules: &PackedRules, r: usize) -> Rule
-    requires { ⌜ r < 64 ⌝ }
-    ensures { λ x. ⌜ x ≡ unpackedOf (getD (now (rules .entry)) r 0) ⌝ }
-{
-    unpacked(rules[r])
-}
-
-// The rules of a grammar, packed.
-pub fn pack_rules(g: GrammarTable) -> PackedRules
-    ensures { λ r. ⌜ ((h : Grammar) → g ≡ grammarTable h → PackedRules h r) ⌝ }
-{
-    let mut out = [0u64; RULES_MOST];
-    let mut i: usize = 0;
-    while i < RULES_MOST {
-        let cell = g.rules[i];
-        let rule = cell.rule;
-        out[i] = packed(rule);
-        i += 1;
-    }
-    out
-}
-
-// The units of a playing's onsets; in every place behind them the end of the longest piece, so that a search for the first onset behind
-// an interval needs no count.
-pub fn pack_units(p: PlayingTable) -> PackedUnits
-    requires { ⌜ p .count ≤ 512 ⌝ }
-    ensures { λ r. ⌜ ((q : Playing) → GoodOnsets q → p ≡ playingTable q → r ≡ unitCells q) ⌝ }
-{
-    let mut out = [PIECE_UNITS; UNIT_CELLS];
-    let n = p.count;
-    let mut i: usize = 0;
-    while i < n {
-        let unit = p.units[i];
-        out[i] = unit.0;
-        i += 1;
-    }
-    out
 }
 
 // The token kind of a leaf by its placed count and the number of onsets before its left bound, which does not change it.

@@ -9,8 +9,8 @@ use Rattle.hextext.specs.Text.{lines, lineBytes, lineSize}
 use Rattle.hextext.specs.Laws.{lines-at, lines-end, line-within, line-size-pos}
 use Rattle.sheet.specs.declared.line.Line.{Line}
 use Rattle.sheet.specs.declared.table.PlayingTable.{PlayingTable}
-use Rattle.playing.specs.declared.Latest.{Latest}
-use Rattle.playing.specs.declared.OnsetStep.{OnsetStep}
+use Rattle.playing.specs.declared.onset.Latest.{Latest}
+use Rattle.playing.specs.declared.onset.OnsetStep.{OnsetStep}
 use Rattle.playing.specs.declared.Take.{Take}
 use Rattle.sheet.specs.Sheet.{Grammar, Playing, Timing, TimedSheet, inBar}
 use Rattle.sheet.specs.Outcome.{Outcome, refused, accepted}

@@ -11,8 +11,8 @@ use lib.Dec.{eqb}
 use borrow.Author.Tests.{eq-eqb, ne-eqb}
 use Rattle.slices.specs.Every.{Every, every-weaken}
 use Rattle.sheet.specs.declared.line.Line.{Line}
-use Rattle.playing.specs.declared.Latest.{Latest}
-use Rattle.playing.specs.declared.OnsetStep.{OnsetStep}
+use Rattle.playing.specs.declared.onset.Latest.{Latest}
+use Rattle.playing.specs.declared.onset.OnsetStep.{OnsetStep}
 use Rattle.sheet.specs.Sheet.{Onset, Grammar, Playing, Timing, unitIn, barOf, inBar}
 use Rattle.sheet.specs.Reading.{first, byte, four, lineOf, onsetForm, momentRefusal, roomRefusal, onsetRefusal, onsetOf, withOnset, inOnsets}
 use Rattle.sheet.specs.Reading.{refusal}

@@ -14,8 +14,8 @@ use Rattle.sheet.specs.Reading.{byte, lineOf, inRules, inOnsets, refusal, readL
 use Rattle.sheet.specs.Held.{micros, timingTable, playingTable, noPlaying}
 use Rattle.sheet.specs.Good.{GoodRules}
 use Rattle.sheet.specs.SoFar.{GoodSoFar}
-use Rattle.playing.specs.declared.Latest.{Latest}
-use Rattle.playing.specs.declared.OnsetStep.{OnsetStep}
+use Rattle.playing.specs.declared.onset.Latest.{Latest}
+use Rattle.playing.specs.declared.onset.OnsetStep.{OnsetStep}
 use Rattle.playing.specs.declared.Take.{Take}
 
 -- the timing that a table holds

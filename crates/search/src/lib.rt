@@ -1,46 +1,33 @@
-// The search for a least tree of a sheet, bar after bar: the rows of bars up to a bar line that nothing is carried over, then the suffix costs
-// behind them from the last of these bars to the first, and then their trees from the first to the last.
+// The search for a least tree of a sheet, bar after bar: the rows of bars up to a bar line that nothing is carried over, then the suffix
+// costs behind them from the last of these bars to the first, and then their trees from the first to the last.
 ghost use mathlib.Core.Path.{_≡_};
-ghost use mathlib.Core.Bool.{true};
-ghost use Prim.Native.Nat.{ℕ, _<_, _≤_};
+ghost use Prim.Native.Nat.{_≤_};
 ghost use lib.ListN.{length, take};
 ghost use Rattle.slices.specs.Over.{over};
 ghost use Rattle.slices.specs.Filled.{Filled};
 ghost use Rattle.sheet.specs.Sheet.{Sheet};
-ghost use Rattle.trees.specs.LeastTotal.{carries};
-ghost use Rattle.plan.specs.Plan.{Prepared};
-ghost use Rattle.rows.specs.Vectors.{Low};
-ghost use Rattle.search.specs.Contracts.{barOf, EnterPre, PassPre, Rooted, RootsTo, PassedBar, CutVector};
-ghost use Rattle.search.specs.Contracts.{SuffixStepPre, SuffixStep, BackwardPre, VectorsFrom, BarsBuildPre, CommittedAs, CommitPre};
-ghost use Rattle.search.specs.Contracts.{ForwardPre, FoundIn, ParsePre, FoundAs};
-ghost use Rattle.search.specs.Contracts.{rowCells, RowCellsPre, SearchPre, Searched};
-use building::build;
+ghost use Rattle.search.specs.Contracts.{ForwardPre, FoundIn, ParsePre, FoundAs, SearchPre, Searched};
+
+mod bars;
+mod commit;
+
+use bars::enter;
+use bars::pass;
+use bars::row_cells;
+use commit::commit;
+use commit::is_cut_point;
 use expansions::PackedUnits;
 use expansions::pack_units;
 use filling::Order;
 use filling::by_arity;
 use filling::fill_bar;
 use plan::Plan;
-use plan::length_count;
-use plan::nonterminals;
 use plan::prepare;
-use rows::slots::Bar;
-use rows::slots::first_behind;
-use rows::slots::load;
-use rows::slots::store;
-use rows::table::cells;
-use rows::table::idle;
-use rows::vector::NO_CELL;
 use rows::vector::NONE;
-use rows::vector::dot;
 use rows::vector::only_at;
-use rows::vector::relax;
-use rows::vector::totals;
-use sheet::BAR_UNITS;
 use sheet::BARS_MOST;
 use sheet::GrammarTable;
 use sheet::PlayingTable;
-use sheet::Units;
 use sizes::ITEM_CELLS;
 use sizes::TREE_BYTES_MOST;
 use sizes::most_in_bar;
@@ -67,217 +54,6 @@ fn clear(cells: &mut [u64], n: usize)
         cells[i] = 0;
         i += 1;
     }
-}
-
-// Bar b, of whose rows the table has so many slots.
-fn enter(units: &PackedUnits, b: usize, slots: usize) -> Bar
-    requires { ⌜ ((s : Sheet) × EnterPre s (now units) b slots) ⌝ }
-    ensures { λ r. ⌜ ((s : Sheet) → EnterPre s (now (units .entry)) b slots → r ≡ barOf s b) ⌝ }
-{
-    let lo = BAR_UNITS * (b as u32);
-    let first = first_behind(units, 0, Units(lo));
-    Bar {
-        number: b,
-        first,
-        shift: b * (slots / 4 + 1) % slots,
-        slots,
-    }
-}
-
-// The row of a bar from carry state c, where v is the prefix costs; no tree where c is idle.
-fn root_row<'a>(
-    plan: &'a Plan,
-    units: &'a PackedUnits,
-    rows: &mut [u64],
-    bar: Bar,
-    start: usize,
-    v: [u64; 4],
-    c: usize,
-) -> [u64; 4]
-    requires { ⌜ (c < carries) × ((s : Sheet) × PassPre s (now plan) (now units) (now rows) bar start v) ⌝ }
-    ensures { λ y. ⌜
-        ((s : Sheet) → PassPre s (now (plan .entry)) (now (units .entry)) (now (rows .entry)) bar start v
-        → Rooted s (now (rows .exit)) (bar .number) c y)
-        ⌝ }
-{
-    if idle(plan, v, c) {
-        return [NO_CELL; 4];
-    }
-    let lo = BAR_UNITS * (bar.number as u32);
-    cells(plan, units, rows, bar, start, 0, Units(lo), bar.first, c)
-}
-
-// Stores the rows of a bar from each carry state; gives the prefix costs behind it.
-fn pass<'a>(
-    plan: &'a Plan,
-    units: &'a PackedUnits,
-    rows: &mut [u64],
-    roots: &mut [u64],
-    bar: Bar,
-    start: usize,
-    v: [u64; 4],
-) -> [u64; 4]
-    requires { ⌜
-        ((s : Sheet) × PassPre s (now plan) (now units) (now rows) bar start v × RootsTo s (now roots) (bar .number) 0)
-        ⌝ }
-    ensures { λ w. ⌜
-        ((s : Sheet) → PassPre s (now (plan .entry)) (now (units .entry)) (now (rows .entry)) bar start v
-        → RootsTo s (now (roots .entry)) (bar .number) 0 → PassedBar s (now (rows .exit)) (now (roots .exit)) (bar .number) w)
-        ⌝ }
-{
-    let at = ITEM_CELLS * bar.number;
-    let mut o = [NONE; 4];
-    let mut c: usize = 0;
-    while c < 4 {
-        let y = root_row(plan, units, rows, bar, start, v, c);
-        store(roots, at + 4 * c, y, 0);
-        let w = relax(o, v[c], totals(y));
-        o = w;
-        c += 1;
-    }
-    o
-}
-
-// Whether every least tree carries nothing over the bar line, where v is the prefix costs there.
-fn is_cut_point(plan: &Plan, v: [u64; 4]) -> bool
-    requires { ⌜ Low v × ((s : Sheet) × Prepared s (now plan)) ⌝ }
-    ensures { λ r. ⌜ ((s : Sheet) → Prepared s (now (plan .entry)) → r ≡ true → CutVector s v) ⌝ }
-{
-    if v[0] >= NONE {
-        return false;
-    }
-    if idle(plan, v, 1) {
-        if idle(plan, v, 2) {
-            if idle(plan, v, 3) {
-                return true;
-            }
-        }
-    }
-    false
-}
-
-// The suffix costs from bar b on, of its rows and the suffix costs v behind it.
-fn suffix_step(roots: &[u64], b: usize, v: [u64; 4]) -> [u64; 4]
-    requires { ⌜ ((s : Sheet) × (e : ℕ) × SuffixStepPre s (now roots) e b v) ⌝ }
-    ensures { λ w. ⌜ ((s : Sheet) (e : ℕ) → SuffixStepPre s (now (roots .entry)) e b v → SuffixStep (now (roots .entry)) b v w) ⌝ }
-{
-    let at = ITEM_CELLS * b;
-    [
-        dot(totals(load(roots, at)), v),
-        dot(totals(load(roots, at + 4)), v),
-        dot(totals(load(roots, at + 8)), v),
-        dot(totals(load(roots, at + 12)), v),
-    ]
-}
-
-// Fills a table with the suffix costs of the bars from bar `from` on that are before bar `end`, and the one behind them: nothing is carried
-// on.
-fn backward<'a>(roots: &'a [u64], vectors: &mut [u64], from: usize, end: usize)
-    requires { ⌜ ((s : Sheet) × BackwardPre s (now roots) (now vectors) from end) ⌝ }
-    ensures { λ _. ⌜
-        ((s : Sheet) → BackwardPre s (now (roots .entry)) (now (vectors .entry)) from end → VectorsFrom s (now (vectors .exit)) end from)
-        ⌝ }
-{
-    let mut v = only_at(0);
-    store(vectors, 4 * end, v, 0);
-    let mut b = end;
-    while from < b {
-        b -= 1;
-        let w = suffix_step(roots, b, v);
-        store(vectors, 4 * b, w, 0);
-        v = w;
-    }
-}
-
-// Writes the first least lists of these bars, one behind the other, from byte `n` on; gives the number of bytes with those before.
-fn build_bars<'a>(
-    plan: &'a Plan,
-    units: &'a PackedUnits,
-    rows: &mut [u64],
-    tree: &mut [u8],
-    vectors: &'a [u64],
-    roots: &'a [u64],
-    start: usize,
-    from: usize,
-    end: usize,
-    n: usize,
-) -> usize
-    requires { ⌜
-        ((s : Sheet) × BarsBuildPre s (now plan) (now units) (now rows) (now tree) (now vectors) (now roots) start from end n)
-        ⌝ }
-    ensures { λ k. ⌜
-        ((s : Sheet)
-        → BarsBuildPre s (now (plan .entry)) (now (units .entry)) (now (rows .entry)) (now (tree .entry)) (now (vectors .entry))
-        (now (roots .entry)) start from end n → CommittedAs s (now (rows .exit)) (now (tree .exit)) end k)
-        ⌝ }
-{
-    let slots = rows.len() / 4;
-    let mut next = n;
-    let mut carry: usize = 0;
-    let mut b = from;
-    while b < end {
-        let bar = enter(units, b, slots);
-        let y = load(roots, ITEM_CELLS * b + 4 * carry);
-        let lo = BAR_UNITS * (b as u32);
-        b += 1;
-        let v = load(vectors, 4 * b);
-        let built = build(
-            plan,
-            units,
-            rows,
-            tree,
-            bar,
-            start,
-            0,
-            Units(lo),
-            bar.first,
-            carry,
-            y,
-            v,
-            next,
-        );
-        next = built.to;
-        carry = built.carry;
-    }
-    next
-}
-
-// Builds the bars from bar `from` on that are before bar `end`, where no least tree carries anything into the first of them or on from the
-// last: with n bytes before them; gives the number of bytes.
-fn commit<'a>(
-    plan: &'a Plan,
-    units: &'a PackedUnits,
-    rows: &mut [u64],
-    tree: &mut [u8],
-    vectors: &mut [u64],
-    roots: &'a [u64],
-    start: usize,
-    from: usize,
-    end: usize,
-    n: usize,
-) -> usize
-    requires { ⌜
-        ((s : Sheet) × CommitPre s (now plan) (now units) (now rows) (now tree) (now roots) (now vectors) start from end n)
-        ⌝ }
-    ensures { λ k. ⌜
-        ((s : Sheet)
-        → CommitPre s (now (plan .entry)) (now (units .entry)) (now (rows .entry)) (now (tree .entry)) (now (roots .entry))
-        (now (vectors .entry)) start from end n → CommittedAs s (now (rows .exit)) (now (tree .exit)) end k)
-        ⌝ }
-{
-    backward(roots, vectors, from, end);
-    build_bars(
-        plan,
-        units,
-        rows,
-        tree,
-        &vectors[..],
-        roots,
-        start,
-        from,
-        end,
-        n,
-    )
 }
 
 // Finds the first least tree, bar after bar. Where nothing is carried over a bar line, the bars before it are built at once, while the
@@ -400,14 +176,6 @@ fn parse<'a>(
             Found::Tree { nodes, total }
         }
     }
-}
-
-// How many cells the rows take, four a slot, where `most` is the largest number of onsets in a bar.
-fn row_cells(plan: &Plan, most: usize) -> usize
-    requires { ⌜ ((s : Sheet) × RowCellsPre s (now plan) most) ⌝ }
-    ensures { λ n. ⌜ ((s : Sheet) → RowCellsPre s (now (plan .entry)) most → n ≡ rowCells s) ⌝ }
-{
-    ITEM_CELLS * (nonterminals(plan) * length_count(plan) * most)
 }
 
 // Finds the first least tree of a sheet and writes it to the front of the tree slice. The required cells of the work slice are 0 at the

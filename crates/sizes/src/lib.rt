@@ -1,14 +1,18 @@
 // The lengths of intervals that a grammar's divisions reach, and the required lengths of finding's slices.
 ghost use mathlib.Core.Path.{_≡_};
 ghost use mathlib.Core.List.{List};
-ghost use Prim.Native.Nat.{ℕ, _+_, _*_, _<_, _≤_};
-ghost use lib.ListN.{length, getD};
+ghost use Prim.Native.Nat.{ℕ, _≤_};
+ghost use lib.ListN.{length};
 ghost use Rattle.slices.specs.Pad.{pad};
 ghost use Rattle.sheet.specs.Sheet.{Grammar, Playing, Sheet};
 ghost use Rattle.sheet.specs.Held.{grammarTable, playingTable};
 ghost use Rattle.sheet.specs.Good.{GoodRules, GoodOnsets, Good};
-ghost use Rattle.sizes.specs.Sizes.{divisors, member, lengthsOf, mostInBar, treeBytes, workCells};
+ghost use Rattle.sizes.specs.Sizes.{member, lengthsOf, mostInBar, treeBytes, workCells};
 ghost use Rattle.sizes.specs.Held.{arityFlags, lengthTable, ReachedOf};
+
+mod divisors;
+
+use divisors::divisor;
 use sheet::BAR_UNITS;
 use sheet::BARS_MOST;
 use sheet::GrammarTable;
@@ -32,107 +36,10 @@ pub const TREE_BYTES_MOST: usize = BARS_MOST + ONSET_TREE_BYTES * ONSETS_MOST;
 // The work cells of an item: a row of four from each of four carry states.
 pub const ITEM_CELLS: usize = 16;
 
-// The divisors of 20,160, from the largest down.
-const DIVISORS: [u32; LENGTHS_MOST] = [
-    20160,
-    10080,
-    6720,
-    5040,
-    4032,
-    3360,
-    2880,
-    2520,
-    2240,
-    2016,
-    1680,
-    1440,
-    1344,
-    1260,
-    1120,
-    1008,
-    960,
-    840,
-    720,
-    672,
-    630,
-    576,
-    560,
-    504,
-    480,
-    448,
-    420,
-    360,
-    336,
-    320,
-    315,
-    288,
-    280,
-    252,
-    240,
-    224,
-    210,
-    192,
-    180,
-    168,
-    160,
-    144,
-    140,
-    126,
-    120,
-    112,
-    105,
-    96,
-    90,
-    84,
-    80,
-    72,
-    70,
-    64,
-    63,
-    60,
-    56,
-    48,
-    45,
-    42,
-    40,
-    36,
-    35,
-    32,
-    30,
-    28,
-    24,
-    21,
-    20,
-    18,
-    16,
-    15,
-    14,
-    12,
-    10,
-    9,
-    8,
-    7,
-    6,
-    5,
-    4,
-    3,
-    2,
-    1,
-];
-
 // The lengths of intervals: `count` from the front of `cells`, from the largest down, the whole bar first. Places left are zero.
 pub struct LengthTable {
     pub count: usize,
     pub cells: LengthCells,
-}
-
-// The divisor of 20,160 at a place.
-fn divisor(j: usize) -> Units
-    requires { ⌜ j < 84 ⌝ }
-    ensures { λ r. ⌜ r .0 ≡ getD divisors j 0 ⌝ }
-{
-    let d = DIVISORS[j];
-    Units(d)
 }
 
 // For each k up to 8 whether some division has k parts.

@@ -17,7 +17,7 @@ use borrow.Fn.PlainCycle.{Measures, is, falls, and}
 use Rattle.score.proofs.tree.write_tree.Reads as write-tree
 use Rattle.score.proofs.tree.write_tree.Kinds as write-tree-kinds
 use Rattle.score.proofs.tree.+write_tree.Lts-write_tree as write-tree-lts
-use Rattle.expansions.proofs.rule_at.Reads as rule-at-reads
+use Rattle.expansions.proofs.packed.rule_at.Reads as rule-at-reads
 use Rattle.score.proofs.tree.write_leaf.Reads as write-leaf-reads
 use Rattle.score.proofs.tree.+write_tree.{statement}
 use Rattle.score.proofs.tree.+write_tree.Tie.{close}

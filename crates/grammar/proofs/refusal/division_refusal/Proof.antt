@@ -1,0 +1,102 @@
+-- `division_refusal` meets its contract: each return has passed the demands before it. Assumes nothing.
+use borrow.Author.Needs.{needs}
+use mathlib.Core.Path.{sym, _∙_}
+use Rattle.sheet.specs.Reading.{divisionRefusal}
+use Rattle.sheet.specs.Demands.{demands, pass-below, fail-below}
+use Rattle.grammar.proofs.refusal.division_refusal.Statement.{statement}
+use Rattle.grammar.proofs.refusal.division_refusal.Tie as tie
+
+returns : tie.Need-returns
+unfolding divisionRefusal
+returns c = search demands depth 10
+
+element-copy-out-head : tie.Need-element-copy-out-head
+element-copy-out-head c = search needs
+
+element-copy-out-k : tie.Need-element-copy-out-k
+element-copy-out-k c = search needs
+
+cast-k : tie.Need-cast-k
+cast-k c = search needs
+
+returns-2 : tie.Need-returns-2
+unfolding divisionRefusal
+returns-2 c = search demands depth 10
+
+returns-3 : tie.Need-returns-3
+unfolding divisionRefusal
+returns-3 c = search demands depth 10
+
+add-if4 : tie.Need-add-if4
+add-if4 c = search needs
+
+returns-4 : tie.Need-returns-4
+unfolding divisionRefusal
+returns-4 c = search demands depth 10
+
+returns-5 : tie.Need-returns-5
+unfolding divisionRefusal
+returns-5 c = search demands depth 10
+
+all-below-requires : tie.Need-all-below-requires
+all-below-requires c κs = search needs
+
+returns-6 : tie.Need-returns-6
+unfolding divisionRefusal
+returns-6 c =
+    let if1 = c .before .before .before .before .before .before .before .before .before .if1 in
+    let if2 = c .before .before .before .before .before .before .if2 in
+    let if3 = c .before .before .before .before .before .if3 in
+    let if4 = c .before .before .before .before .if4 in
+    let if5 = c .before .before .before .if5 in
+    let all-below = c .before .before .all-below in
+    search (demands, pass-below, sym (all-below .ensures) ∙ c .before .if6 .taken, c .if7 .taken, if5 .left, if4 .left, if3 .left, if2 .left, if1 .left) depth 10
+
+returns-7 : tie.Need-returns-7
+unfolding divisionRefusal
+returns-7 c =
+    let if1 = c .before .before .before .before .before .before .before .before .before .if1 in
+    let if2 = c .before .before .before .before .before .before .if2 in
+    let if3 = c .before .before .before .before .before .if3 in
+    let if4 = c .before .before .before .before .if4 in
+    let if5 = c .before .before .before .if5 in
+    let all-below = c .before .before .all-below in
+    search (demands, pass-below, sym (all-below .ensures) ∙ c .before .if6 .taken, c .if7 .left, if5 .left, if4 .left, if3 .left, if2 .left, if1 .left) depth 10
+
+returns-8 : tie.Need-returns-8
+unfolding divisionRefusal
+returns-8 c =
+    let if1 = c .before .before .before .before .before .before .before .before .if1 in
+    let if2 = c .before .before .before .before .before .if2 in
+    let if3 = c .before .before .before .before .if3 in
+    let if4 = c .before .before .before .if4 in
+    let if5 = c .before .before .if5 in
+    search (
+      demands,
+      fail-below,
+      sym (c .before .all-below .ensures)
+          ∙ c .if6 .left,
+      if5 .left,
+      if4 .left,
+      if3 .left,
+      if2 .left,
+      if1 .left,
+    ) depth 10
+
+pub division-refusal-spec : {M : Type 1} → statement M
+division-refusal-spec =
+    tie.close
+    (tie.spec
+    returns
+    element-copy-out-head
+    element-copy-out-k
+    cast-k
+    returns-2
+    returns-3
+    add-if4
+    returns-4
+    returns-5
+    all-below-requires
+    returns-6
+    returns-7
+    returns-8)
