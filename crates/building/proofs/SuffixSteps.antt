@@ -1,5 +1,5 @@
--- The steps of `passed` and `suffix_costs`: what the parts behind an item total, by the carry state that they are entered with. An idle one is
--- passed by no least list (`passed-idle`), any other is told by the vector over the parts (`passed-parts`), and the four are the vector
+-- The steps of `passed` and `suffix_costs`: what the parts behind an item total, by the carry state that they are entered with. An idle one
+-- is passed by no least list (`passed-idle`), any other is told by the vector over the parts (`passed-parts`), and the four are the vector
 -- (`suffix-four`).
 use Prim.Native.Nat.{ℕ, zero, suc, _+_, _≤_, _<_}
 use mathlib.Core.Path.{_≡_, sym, ap, subst, _∙_}

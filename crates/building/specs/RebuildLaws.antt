@@ -67,7 +67,8 @@ module _ (s : Sheet) (good : GoodRules (s .grammar)) where
   -- an item is built with suffix costs that are interchangeable with those behind it, and then the next
   pub partway-next : (rows tree now then : List ℕ) (gs : List Item) (g : Item) (rest : List Item) (v : ℕ → ℕ) (c to carry next : ℕ)
       (x : List ℕ) (goal : ℕ) (b : Built) → Partway s tree now gs (g ∷ rest) v c to carry next
-      → Interchangeable (instanceOf s) a (g ∷ []) (suffixCosts s rest v) (at x) carry goal → BuiltAs s rows now then (g ∷ []) (at x) carry next b
+      → Interchangeable (instanceOf s) a (g ∷ []) (suffixCosts s rest v) (at x) carry goal → BuiltAs s rows now then (g ∷ []) (at x) carry
+      next b
       → Partway s tree then gs rest v c to (b .carry) (b .to)
   partway-next rows tree now then gs g rest v c to carry next x goal b p alike built =
       record {

@@ -1,5 +1,5 @@
-// Writing the first least list of an item: the rule is told by the item's row and the suffix costs behind it, and then its parts are written from
-// left to right, each with the suffix costs of those behind it.
+// Writing the first least list of an item: the rule is told by the item's row and the suffix costs behind it, and then its parts are
+// written from left to right, each with the suffix costs of those behind it.
 ghost use mathlib.Core.Path.{_≡_};
 ghost use mathlib.Core.List.{[], _∷_};
 ghost use Prim.Native.Nat.{_<_};
@@ -47,8 +47,8 @@ fn least_cell(y: [u64; 4], v: [u64; 4]) -> u64
     least(c, y[3] + 64 * v[3])
 }
 
-// What the parts of rule r from part i on total from carry state c with the suffix costs v behind them; NONE where c is idle by the totals y of
-// the item before them, since no least list passes it.
+// What the parts of rule r from part i on total from carry state c with the suffix costs v behind them; NONE where c is idle by the totals
+// y of the item before them, since no least list passes it.
 fn passed<'a>(
     plan: &'a Plan,
     units: &'a PackedUnits,

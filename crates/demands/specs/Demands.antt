@@ -70,8 +70,13 @@ module _ (text : List ℕ) (s : Sheet) (a : Accepts text s) where
   pub read-answers : (r : Reading) → Reads text r
       → (r .number ≡ 0) × (r .line ≡ 0) × (r .grammar ≡ grammarTable (s .grammar)) × (r .playing ≡ playingTable (s .playing))
   unfolding readingOf
-  read-answers r h = let e = h ∙ ap readingOf (a .1) in
-      (ap (λ (x : Reading). x .number) e, ap (λ (x : Reading). x .line) e, ap (λ (x : Reading). x .grammar) e, ap (λ (x : Reading). x .playing) e)
+  read-answers r h = let e = h ∙ ap readingOf (a .1) in (
+    ap (λ (x : Reading). x .number) e,
+    ap (λ (x : Reading). x .line) e,
+    ap (λ (x : Reading). x .grammar) e,
+    ap
+        (λ (x : Reading). x .playing) e,
+  )
 
   pub price-answers : (list : List ℕ) (r : answer.Priced) → Prices text list r
       → ((ValidTree s list → ⊥) × (r ≡ refusedAs 12 0)) ⊎ (ValidTree s list × (r .number ≡ 0))

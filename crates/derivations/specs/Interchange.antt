@@ -1,5 +1,5 @@
--- Interchangeable suffix costs behind some items: where two vectors of them differ, no list that comes there is least with either. So the first
--- least list with the one is the first least list with the other, and a search may leave out what no least list passes. And the least
+-- Interchangeable suffix costs behind some items: where two vectors of them differ, no list that comes there is least with either. So the
+-- first least list with the one is the first least list with the other, and a search may leave out what no least list passes. And the least
 -- total over items that are cut in two.
 use Prim.Native.Nat.{ℕ, _+_, _*_, _≤_, _<_}
 use mathlib.Core.Path.{_≡_, sym}

@@ -47,10 +47,12 @@ module _ (text : List ℕ) (tree work : ℕ) (s : Sheet) (a : Accepts text s) wh
   pub outcome-ten : workCells s ≤ work → tree < treeBytes s → findText text tree work ≡ refused 10 0
   outcome-ten w h = of-sheet _ (tree-short s tree work w h)
 
-  pub outcome-eleven : workCells s ≤ work → treeBytes s ≤ tree → ((bs : List ℕ) → ValidTree s bs → ⊥) → findText text tree work ≡ accepted (noTree s)
+  pub outcome-eleven : workCells s ≤ work → treeBytes s ≤ tree → ((bs : List ℕ) → ValidTree s bs → ⊥)
+      → findText text tree work ≡ accepted (noTree s)
   outcome-eleven w t h = of-sheet _ (none-found s tree work w t (has-none s ok h))
 
-  pub outcome-found : workCells s ≤ work → treeBytes s ≤ tree → (bs : List ℕ) → ValidTree s bs → findText text tree work ≡ accepted (found s)
+  pub outcome-found : workCells s ≤ work → treeBytes s ≤ tree → (bs : List ℕ) → ValidTree s bs
+      → findText text tree work ≡ accepted (found s)
   outcome-found w t bs v = of-sheet _ (one-found s tree work w t (has-tree s ok bs v))
 
   -- there is no other way
@@ -115,7 +117,8 @@ module _ (text : List ℕ) {tree tree′ work work′ : List ℕ} {r : Priced} (
         → (r ≡ refusedAs 11 0) × (tree′ ≡ tree) × (work′ ≡ cleared s work)
     unfolding pricedOf
     no-tree-then-eleven w t h =
-        let g = given (accepted (noTree s)) (outcome-eleven text _ _ s a w t h) in (g .result .0 .zeros, g .result .0 .tree-kept, g .result .1)
+        let g = given (accepted (noTree s)) (outcome-eleven text _ _ s a w t h) in
+        (g .result .0 .zeros, g .result .0 .tree-kept, g .result .1)
 
     -- and so they are after a tree: it lies over the front of the tree slice, and the answer has its figures
     pub tree-then-found : workCells s ≤ length work → treeBytes s ≤ length tree → (bs : List ℕ) → ValidTree s bs

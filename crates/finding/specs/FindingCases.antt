@@ -191,7 +191,8 @@ case-answered c e tree treeAfter work workAfter answer w t f = go (readSheet (c 
         let (b, y) = and-both (eqb (treeBytes (x .sheet)) (c .room)) _ v in
         let cells = eqb-true (workCells (x .sheet)) (c .cells) a in
         let bytes = eqb-true (treeBytes (x .sheet)) (c .room) b in
-        let g = sheet-answered (c .text) (x .sheet) (x .timing, r) (omega (arith, cells)) (omega (arith, bytes)) f (c .gives) (c .bytes) y in
+        let g = sheet-answered (c .text) (x .sheet) (x .timing, r) (omega (arith, cells)) (omega (arith, bytes)) f (c .gives) (c .bytes)
+        y in
         record {
           answer-is = g .answer-so;
           tree-is = g .tree-so;

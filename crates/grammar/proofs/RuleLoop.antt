@@ -15,7 +15,8 @@ use Rattle.sheet.specs.declared.table.GrammarTable.{GrammarTable}
 use Rattle.grammar.specs.declared.Rules.{Rules}
 use Rattle.sheet.specs.Sheet.{Grammar}
 use Rattle.sheet.specs.Outcome.{refused}
-use Rattle.sheet.specs.Reading.{demand, byte, bytesFrom, lineOf, ruleRefusal, ruleOf, withRule, playingRefusal, inRules, rulesRefusal, refusal}
+use Rattle.sheet.specs.Reading.{demand, byte, bytesFrom, lineOf, ruleRefusal, ruleOf, withRule, playingRefusal, inRules, rulesRefusal}
+use Rattle.sheet.specs.Reading.{refusal}
 use Rattle.sheet.specs.Reading.{after, readLines}
 use Rattle.sheet.specs.Held.{held, grammarTable, partsOf, childCells}
 use Rattle.grammar.specs.Contracts.{cellOf, arityOf}

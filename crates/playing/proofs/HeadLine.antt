@@ -12,7 +12,8 @@ use Rattle.sheet.specs.declared.table.TimingTable.{TimingTable}
 use Rattle.playing.specs.declared.Take.{Take}
 use Rattle.sheet.specs.Sheet.{Grammar, Timing}
 use Rattle.sheet.specs.Outcome.{refused}
-use Rattle.sheet.specs.Reading.{byte, four, lineOf, playingRefusal, playingOf, timingOf, inRules, inOnsets, rulesRefusal, refusal, after, readLines}
+use Rattle.sheet.specs.Reading.{byte, four, lineOf, playingRefusal, playingOf, timingOf, inRules, inOnsets, rulesRefusal, refusal, after}
+use Rattle.sheet.specs.Reading.{readLines}
 use Rattle.sheet.specs.Held.{held, noPlaying}
 use Rattle.sheet.specs.SoFar.{GoodSoFar}
 use Rattle.sheet.specs.Laws.{read-on, read-stop}
@@ -61,5 +62,6 @@ module _ (t : List ℕ) (at n : ℕ) (inside : at < length t) (g : Grammar) (som
         subst (λ o. TakeRead o g r)
         (sym (ap (readLines (inRules g) n) (lines-at t at inside)
         ∙ read-on (inRules g) n b _ (sym refusal-is ∙ met)
-        ∙ (λ j. readLines ((after-is ∙ ap (λ (x : Timing). inOnsets g x (playingOf l) 0) (timing-is l d ed)) j) (n + 1) (lines (drop (sym en j) t)))))
+        ∙ (λ j. readLines ((after-is ∙ ap (λ (x : Timing). inOnsets g x (playingOf l) 0) (timing-is l d ed)) j) (n + 1)
+        (lines (drop (sym en j) t)))))
         onsets

@@ -37,10 +37,12 @@ pub record OnsetsSoFar (t : List ℕ) (at n bars : ℕ) (timing : Timing) (table
   pub within : at′ ≤ length t
   pub line : n′ ≤ at′ + 1
   pub rest : (g : Grammar)
-      → readLines (inOnsets g timing (noPlaying bars) 0) n (lines (drop at t)) ≡ readLines (inOnsets g timing playing last) n′ (lines (drop at′ t))
+      → readLines (inOnsets g timing (noPlaying bars) 0) n (lines (drop at t))
+      ≡ readLines (inOnsets g timing playing last) n′ (lines (drop at′ t))
 
 -- none yet
-pub onsets-none : (t : List ℕ) (at n bars : ℕ) (timing : Timing) (table : PlayingTable) → at ≤ length t → n ≤ at + 1 → GoodSoFar timing (noPlaying bars) 0
+pub onsets-none : (t : List ℕ) (at n bars : ℕ) (timing : Timing) (table : PlayingTable) → at ≤ length t → n ≤ at + 1
+    → GoodSoFar timing (noPlaying bars) 0
     → table ≡ playingTable (noPlaying bars)
     → OnsetsSoFar t at n bars timing table (record { time = micros 0; bar = 0; run = 0 }) at n 0
 unfolding inBar
@@ -68,12 +70,14 @@ module _ {t : List ℕ} {at n bars : ℕ} {timing : Timing} {table : PlayingTabl
 
   -- another line is read
   module _ (inside : at′ < length t) (l : Line) (held-is : l ≡ held b) (r : OnsetStep)
-      (step : (g : Grammar) (q : Playing) (last : ℕ) → GoodSoFar timing q last → bars ≡ q .bars → k ≡ length (q .onsets) → s ≡ latestOf timing q last
+      (step : (g : Grammar) (q : Playing) (last : ℕ) → GoodSoFar timing q last → bars ≡ q .bars → k ≡ length (q .onsets)
+      → s ≡ latestOf timing q last
       → OnsetStepped g timing q last l r) where
     stepped : (g : Grammar) → OnsetStepped g timing p (h .last) (lineOf b) r
     stepped g =
         stepped-held g timing p (h .last) b r
-        (subst (λ (x : Line). OnsetStepped g timing p (h .last) x r) held-is (step g p (h .last) (h .good) (h .bars-are) (h .count) (h .latest)))
+        (subst (λ (x : Line). OnsetStepped g timing p (h .last) x r) held-is
+        (step g p (h .last) (h .good) (h .bars-are) (h .count) (h .latest)))
 
     -- and refused
     pub onsets-stop : (g : Grammar) → (r .number ≡ 0 → ⊥)
@@ -96,7 +100,8 @@ module _ {t : List ℕ} {at n bars : ℕ} {timing : Timing} {table : PlayingTabl
       onsets-room = let m = onset-passed timing p (h .last) L met .room in omega (arith, h .count)
 
       onward : (g : Grammar) (ls : List (List ℕ))
-          → readLines (inOnsets g timing p (h .last)) n′ (b ∷ ls) ≡ readLines (inOnsets g timing (withOnset p (onsetOf timing L)) (four L 1)) (n′ + 1) ls
+          → readLines (inOnsets g timing p (h .last)) n′ (b ∷ ls)
+          ≡ readLines (inOnsets g timing (withOnset p (onsetOf timing L)) (four L 1)) (n′ + 1) ls
       unfolding after
       onward g ls = read-on (inOnsets g timing p (h .last)) n′ b ls (sym (stepped g .number) ∙ z)
 

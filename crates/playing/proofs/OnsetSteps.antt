@@ -14,7 +14,8 @@ use Rattle.sheet.specs.declared.line.Line.{Line}
 use Rattle.playing.specs.declared.onset.Latest.{Latest}
 use Rattle.playing.specs.declared.onset.OnsetStep.{OnsetStep}
 use Rattle.sheet.specs.Sheet.{Onset, Grammar, Playing, Timing, unitIn, barOf, inBar}
-use Rattle.sheet.specs.Reading.{first, byte, four, lineOf, onsetForm, momentRefusal, roomRefusal, onsetRefusal, onsetOf, withOnset, inOnsets}
+use Rattle.sheet.specs.Reading.{first, byte, four, lineOf, onsetForm, momentRefusal, roomRefusal, onsetRefusal, onsetOf, withOnset}
+use Rattle.sheet.specs.Reading.{inOnsets}
 use Rattle.sheet.specs.Reading.{refusal}
 use Rattle.sheet.specs.Held.{held}
 use Rattle.sheet.specs.Clock.{div-mono, unit-mono}

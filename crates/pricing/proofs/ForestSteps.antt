@@ -86,7 +86,8 @@ module _ {s : Sheet} {cells children units list ks : List ℕ} {l n : ℕ} {a : 
         }
 
     -- the row is what is read, the next interval and the rest
-    in-three : adjoining l n ks ≡ adjoining l n (take j ks) ++ (itemOf (getD ks j 0) (interval left n) ∷ adjoining (left + n) n (drop (suc j) ks))
+    in-three : adjoining l n ks
+        ≡ adjoining l n (take j ks) ++ (itemOf (getD ks j 0) (interval left n) ∷ adjoining (left + n) n (drop (suc j) ks))
     in-three =
         ap (adjoining l n) (split-at ks j 0 k) ∙ adjoining-append l n (take j ks) (getD ks j 0 ∷ drop (suc j) ks)
         ∙ ap (λ x. adjoining l n (take j ks) ++ adjoining x n (getD ks j 0 ∷ drop (suc j) ks))
@@ -101,7 +102,8 @@ module _ {s : Sheet} {cells children units list ks : List ℕ} {l n : ℕ} {a : 
       where
         one-more : adjoining l n (take (j + 1) ks) ≡ adjoining l n (take j ks) ++ (itemOf (getD ks j 0) (interval left n) ∷ [])
         one-more =
-            ap (λ m. adjoining l n (take m ks)) (add-one j) ∙ ap (adjoining l n) (take-suc ks j 0 k) ∙ adjoining-append l n (take j ks) (getD ks j 0 ∷ [])
+            ap (λ m. adjoining l n (take m ks)) (add-one j) ∙ ap (adjoining l n) (take-suc ks j 0 k) ∙ adjoining-append l n (take j ks)
+            (getD ks j 0 ∷ [])
             ∙ ap (λ x. adjoining l n (take j ks) ++ adjoining x n (getD ks j 0 ∷ []))
             (omega (arith, e, ap (λ x. x * n) (length-take-le j ks (omega arith))))
 

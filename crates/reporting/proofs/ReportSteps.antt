@@ -1,5 +1,6 @@
--- What `refusal_line` composes, and what each way out of `compose_sheet` gives, by what `find_sheet` and `write_priced` told; then the same of
--- `compose`, by what `read` told. Then what `report` copies: the front of the tree slice, and with a refusal back again. Assumes nothing.
+-- What `refusal_line` composes, and what each way out of `compose_sheet` gives, by what `find_sheet` and `write_priced` told; then the same
+-- of `compose`, by what `read` told. Then what `report` copies: the front of the tree slice, and with a refusal back again. Assumes
+-- nothing.
 use Prim.Native.Nat.{ℕ, _≤_, _<_}
 use mathlib.Core.Path.{_≡_, refl, sym, ap, subst, _∙_}
 use mathlib.Core.List.{List, [], _∷_}
@@ -129,16 +130,19 @@ module _ {s : Sheet} {g : GrammarTable} {p : PlayingTable} (h : SheetHeld s g p)
       wrote-so = rw (sym (wrote room)) told
 
       abbrev Answers : Outcome (List ℕ) → (line lineAfter : List ℕ) → Shown → Type 0
-      Answers p line lineAfter r = (restored r (take treeMost tree) treeAfter ≡ treeWith p bytes tree) × Prints p score scoreOut line lineAfter r
+      Answers p line lineAfter r = (restored r (take treeMost tree) treeAfter ≡ treeWith p bytes tree) × Prints p score scoreOut line
+          lineAfter r
 
       abbrev Reported : (line lineAfter : List ℕ) → Shown → Type 0
       Reported line lineAfter r =
-          Printed (findSheet s (length tree) (length work)) tree (restored r (take treeMost tree) treeAfter) work workAfter score scoreOut line
+          Printed (findSheet s (length tree) (length work)) tree (restored r (take treeMost tree) treeAfter) work workAfter score scoreOut
+          line
           lineAfter r
 
       whole : (line lineAfter : List ℕ) (r : Shown) → Answers (textWithin room lines) line lineAfter r → Reported line lineAfter r
       whole line lineAfter r (t, p) =
-          subst (λ (o : Outcome Search). Printed o tree (restored r (take treeMost tree) treeAfter) work workAfter score scoreOut line lineAfter r)
+          subst (λ (o : Outcome Search). Printed o tree (restored r (take treeMost tree) treeAfter) work workAfter score scoreOut line
+          lineAfter r)
           (sym (back .outcome)) (
             record {
               bytes = bytes;

@@ -50,7 +50,8 @@ abbrev pub Fits : Outcome (List ℕ) → (room : ℕ) → Type 0
 Fits (accepted text) room = length text ≤ room
 Fits (refused k n) room = Unit {0}
 
-pub prints : (page : Outcome (List ℕ)) {score scoreAfter line lineAfter : List ℕ} {answer : Shown} → Fits page (length score) → answer ≡ shownOf page
+pub prints : (page : Outcome (List ℕ)) {score scoreAfter line lineAfter : List ℕ} {answer : Shown} → Fits page (length score)
+    → answer ≡ shownOf page
     → scoreAfter ≡ writing.scoreAfter page score → lineAfter ≡ lineWith page line → Prints page score scoreAfter line lineAfter answer
 unfolding writing.scoreAfter
 prints page {score} {scoreAfter} {line} {lineAfter} {answer} h a s l =
@@ -70,7 +71,8 @@ module _ {score scoreAfter line lineAfter : List ℕ} {answer : Shown} where
   nine (refused k n) p h = ap length (p .line-is) ∙ refusal-line-bytes k n
 
   -- as many bytes as are shown stand in the score slice
-  fits : (page : Outcome (List ℕ)) → Fits page (length score) → Prints page score scoreAfter line lineAfter answer → (n : ℕ) → answer ≡ Score n
+  fits : (page : Outcome (List ℕ)) → Fits page (length score) → Prints page score scoreAfter line lineAfter answer → (n : ℕ)
+      → answer ≡ Score n
       → n ≤ length scoreAfter
   unfolding writing.scoreAfter
   fits (accepted text) h p n e =

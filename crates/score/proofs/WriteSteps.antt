@@ -36,7 +36,8 @@ abbrev pub Promised : Outcome (List ℕ) → Written → (score score′ : List 
 Promised o r score score′ = (r ≡ writtenOf o) × (score′ ≡ scoreAfter o score)
 
 -- a refusal keeps the slice
-kept : (o : Outcome (List ℕ)) (k n : ℕ) → o ≡ refused k n → (r : Written) (score : List ℕ) → r ≡ writtenOf (refused k n) → Promised o r score score
+kept : (o : Outcome (List ℕ)) (k n : ℕ) → o ≡ refused k n → (r : Written) (score : List ℕ) → r ≡ writtenOf (refused k n)
+    → Promised o r score score
 unfolding scoreAfter
 kept o k n e r score f = (f ∙ ap writtenOf (sym e), ap (λ x. scoreAfter x score) (sym e))
 
@@ -151,7 +152,8 @@ module _ (text list : List ℕ) (r : Reading) (e : r ≡ readingOf (readSheet te
       → Promised (writeText text list (length score)) x score score
   unfolding writeText
   text-refused f g =
-      kept (writeText text list (length score)) (r .number) (r .line) (on-refused text r e (λ s. writeSheet s list (length score)) f) x score g
+      kept (writeText text list (length score)) (r .number) (r .line) (on-refused text r e (λ s. writeSheet s list (length score)) f) x
+      score g
 
   pub text-written : (score′ : List ℕ) → r .number ≡ 0
       → ((s : Sheet) → SheetHeld s (r .grammar) (r .playing) → Promised (writeSheet s list (length score)) x score score′)

@@ -30,7 +30,8 @@ scoreOf s {bytes} {R} {D} p = scoreText (s .playing .bars) R D (totalOf s R D) (
 pub own-text : (s : Sheet) {bs : List ℕ} {R D : ℕ} (p : Priced s bs R D)
     → treeText s bs R D (totalOf s R D) ≡ scoreOf s p
 own-text s {bs} {R} {D} p =
-    ap (λ (ls : List Leaf). scoreText (s .playing .bars) R D (totalOf s R D) (map scoreLeaf (entries s ls))) (sym (leaves-of s bs (p .valid)))
+    ap (λ (ls : List Leaf). scoreText (s .playing .bars) R D (totalOf s R D) (map scoreLeaf (entries s ls)))
+    (sym (leaves-of s bs (p .valid)))
 
 -- a list is a valid tree with its own R and D, and a slice of `room` bytes has room for its text or is short of it
 abbrev pub Fitting : Sheet → (list : List ℕ) → (room : ℕ) → Type 0

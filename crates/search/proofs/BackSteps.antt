@@ -1,6 +1,6 @@
--- The steps of `suffix_step` and `backward`: suffix costs from the last bar to the first. Each cell of `suffix_step` is the least sum of a row
--- and the suffix costs behind the bar (`suffix-step-cell`). `Backward` is the invariant of `backward`: it begins behind the last bar (`backward-none`) and
--- goes on by a bar (`backward-more`).
+-- The steps of `suffix_step` and `backward`: suffix costs from the last bar to the first. Each cell of `suffix_step` is the least sum of a
+-- row and the suffix costs behind the bar (`suffix-step-cell`). `Backward` is the invariant of `backward`: it begins behind the last bar
+-- (`backward-none`) and goes on by a bar (`backward-more`).
 use Prim.Native.Nat.{ℕ, _+_, _-_, _*_, _/_, _≤_, _<_}
 use mathlib.Core.Path.{_≡_, refl, sym, ap, subst, _∙_}
 use mathlib.Core.List.{List, [], _∷_}

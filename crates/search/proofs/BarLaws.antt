@@ -96,7 +96,8 @@ module _ (s : Sheet) (e : ℕ) where
 
   pub bars-cut : (b : ℕ) → b ≤ e → barsTo s e ≡ barsTo s b ++ barsFrom s e b
   bars-cut b h =
-      ap (adjoining 0 barUnits) (replicate-cut b e (start s) h) ∙ adjoining-append 0 barUnits (replicate b (start s)) (drop b (replicate e (start s)))
+      ap (adjoining 0 barUnits) (replicate-cut b e (start s) h) ∙ adjoining-append 0 barUnits (replicate b (start s))
+      (drop b (replicate e (start s)))
       ∙ ap (λ (n : ℕ). barsTo s b ++ adjoining (0 + n * barUnits) barUnits (drop b (replicate e (start s)))) (length-replicate b (start s))
 
   pub bar-suffix-next : (b c : ℕ) → b < e
@@ -186,9 +187,11 @@ module _ (s : Sheet) (e : ℕ) where
         module _ {v : List ℕ} (suffix : Suffix s e (b + 1) v) where
           -- a bar that is entered where a least list may pass: v is interchangeable with what is behind it
           pub interchangeable-bar : (c : ℕ) → c < carries → OnPath s e b c
-              → Interchangeable (instanceOf s) (s .grammar .multiplier) (barItem s b ∷ []) (barSuffixCosts s e (b + 1)) (at v) c (barSuffixCosts s e b c)
+              → Interchangeable (instanceOf s) (s .grammar .multiplier) (barItem s b ∷ []) (barSuffixCosts s e (b + 1)) (at v) c
+              (barSuffixCosts s e b c)
           interchangeable-bar c hc on =
-              interchangeable-item (lawful s) (s .grammar .multiplier) NONE (cellOf s) (cells-least s good) (barItem s b) (barSuffixCosts s e (b + 1))
+              interchangeable-item (lawful s) (s .grammar .multiplier) NONE (cellOf s) (cells-least s good) (barItem s b)
+              (barSuffixCosts s e (b + 1))
               (at v) c
               (barSuffixCosts s e b c)
               hc

@@ -47,7 +47,8 @@ module _ {s : Sheet} {plan us rows tree vectors roots : List ℕ} {start from e 
 
   pub in-bars-none : InBars s rows tree tree e from 0 n
   in-bars-none = record {
-    partway = partway-committed s good e (h .committable .reached) from (h .committable .rising) (h .committable .cut) (h .committable .committed) (h .committable .end-in);
+    partway = partway-committed s good e (h .committable .reached) from (h .committable .rising) (h .committable .cut)
+        (h .committable .committed) (h .committable .end-in);
     on-path = path-cut s e good (h .committable .reached) from (h .committable .rising) (h .committable .cut);
     sound = h .committable .entry .sound;
   }
@@ -89,7 +90,12 @@ module _ {s : Sheet} {plan us rows tree vectors roots : List ℕ} {start from e 
 
       reached : suffixCosts s (g ∷ []) (at x) carry < NONE
       reached =
-          omega (arith, path-reached s e good (h .committable .reached) b hb suffix carry bar-carry (p .on-path), p .on-path, h .committable .reached)
+          omega (
+            arith,
+            path-reached s e good (h .committable .reached) b hb suffix carry bar-carry (p .on-path),
+            p .on-path,
+            h .committable .reached,
+          )
 
       pub bar-build : {bar : Bar} → bar ≡ barOf s b
           → BuildPre s plan us rows′ now bar start 0 (units (20160 * b)) (bar .first) carry y x next
@@ -97,7 +103,8 @@ module _ {s : Sheet} {plan us rows tree vectors roots : List ℕ} {start from e 
           let same = bar-item s (h .committable .entry .start-is) b in
           record {
             entry = record {
-              stands = bar-stands s (h .committable .entry .start-is) b (h .committable .entry .prepared) (h .committable .entry .onsets) below eb;
+              stands = bar-stands s (h .committable .entry .start-is) b (h .committable .entry .prepared) (h .committable .entry .onsets)
+                  below eb;
               few = bar-carry;
               sound = p .sound;
             };
@@ -120,13 +127,15 @@ module _ {s : Sheet} {plan us rows tree vectors roots : List ℕ} {start from e 
       in-bars-more {rows″} {then} {built} told = record {
         partway = partway-next s good rows″ tree now then (barsTo s e) g (barsFrom s e (b + 1)) (only NONE 0) 0 0 carry next x
             (barSuffixCosts s e b carry) built on alike made;
-        on-path = rw (made .carry-is) (path-next s e good (h .committable .reached) b hb carry (made .price .carry) bar-carry (p .on-path) onward);
+        on-path = rw (made .carry-is)
+            (path-next s e good (h .committable .reached) b hb carry (made .price .carry) bar-carry (p .on-path) onward);
         sound = made .sound;
       }
         where
           made : BuiltAs s rows″ now then (g ∷ []) (at x) carry next built
           made =
-              subst (λ (i : Item). BuiltAs s rows″ now then (i ∷ []) (at x) carry next built) (bar-item s (h .committable .entry .start-is) b) told
+              subst (λ (i : Item). BuiltAs s rows″ now then (i ∷ []) (at x) carry next built)
+              (bar-item s (h .committable .entry .start-is) b) told
 
           first : First (instanceOf s) a (g ∷ []) (barSuffixCosts s e (b + 1)) carry (made .bytes) (made .price)
           first = first-interchanged alike (made .first)

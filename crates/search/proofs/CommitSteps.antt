@@ -1,6 +1,6 @@
--- The steps of `is_cut_point`, `commit`, `forward` and `copy`: bars up to a bar line that nothing is carried over are built at once. `Going` is
--- the invariant of `forward`: it begins with no bar (`going-none`), goes on by a bar (`going-more`) and by bars that are committed
--- (`going-committed`), and tells the result (`going-none-found`, `going-found`).
+-- The steps of `is_cut_point`, `commit`, `forward` and `copy`: bars up to a bar line that nothing is carried over are built at once.
+-- `Going` is the invariant of `forward`: it begins with no bar (`going-none`), goes on by a bar (`going-more`) and by bars that are
+-- committed (`going-committed`), and tells the result (`going-none-found`, `going-found`).
 use Prim.Native.Nat.{ℕ, _+_, _≤_, _<_}
 use mathlib.Core.Path.{_≡_, refl, sym, ap, subst, _∙_}
 use mathlib.Core.List.{List}

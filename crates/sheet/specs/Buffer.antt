@@ -142,7 +142,8 @@ module _ (b : List ℕ) where
   after-held nothing e = ap inRules head-of-held
   after-held (inRules g) e = rw (byte-held 0 (omega arith), timing-of-held, playing-of-held) (go (eqb (byte l 0) 0x45) e)
     where
-      go : (t : Bool) → cond t (demand (ltb 0 (length (g .rules))) 3 (playingRefusal l)) (ruleRefusal (g .nonterminals) (length (g .rules)) l) ≡ 0
+      go : (t : Bool)
+          → cond t (demand (ltb 0 (length (g .rules))) 3 (playingRefusal l)) (ruleRefusal (g .nonterminals) (length (g .rules)) l) ≡ 0
           → cond t (inOnsets g (timingOf l) (playingOf l) 0) (inRules (withRule g (ruleOf h)))
           ≡ cond t (inOnsets g (timingOf l) (playingOf l) 0) (inRules (withRule g (ruleOf l)))
       go true z = refl

@@ -98,7 +98,16 @@ good-start l e =
     record {
       time = record { shortest = p .shortest; longest = p .longest };
       onsets =
-          record { one = p .one; sixty-four = p .sixty-four; most = omega arith; below = tt; pitches = tt; rising = tt; few = λ b. omega arith };
+          record {
+            one = p .one;
+            sixty-four = p .sixty-four;
+            most = omega arith;
+            below = tt;
+            pitches = tt;
+            rising = tt;
+            few = λ b. omega
+                arith;
+          };
       before = tt;
     }
 
@@ -133,7 +142,8 @@ module _ (timing : Timing) (p : Playing) (last : ℕ) (l : Line) (h : GoodSoFar 
       let lasting : 0 < timing .duration = omega (arith, time .shortest) in
       let up : unitIn timing last ≤ u = unit-mono (timing .duration) lasting (k .rises) in
       let earlier : Every (λ (x : Onset). x .unit ≤ u) (p .onsets) =
-      every-weaken (λ (x : Onset). x .unit ≤ unitIn timing last) (λ (x : Onset). x .unit ≤ u) (λ x m. le-trans m up) (p .onsets) (h .before) in
+      every-weaken (λ (x : Onset). x .unit ≤ unitIn timing last) (λ (x : Onset). x .unit ≤ u) (λ x m. le-trans m up) (p .onsets)
+      (h .before) in
       record {
         time = time;
         onsets =

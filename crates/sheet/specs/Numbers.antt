@@ -11,8 +11,10 @@ use Rattle.hextext.specs.Text.{badLine, lines}
 use Rattle.sheet.specs.declared.line.Line.{Line}
 use Rattle.sheet.specs.Sheet.{Playing, Timing, TimedSheet}
 use Rattle.sheet.specs.Outcome.{Outcome, refused, accepted}
-use Rattle.sheet.specs.Reading.{demand, first, lineOf, Progress, nothing, inRules, inOnsets, headRefusal, divisionRefusal, leafRefusal}
-use Rattle.sheet.specs.Reading.{ruleRefusal, playingRefusal, onsetForm, momentRefusal, roomRefusal, onsetRefusal, rulesRefusal, refusal}
+use Rattle.sheet.specs.Reading.{demand, first, lineOf, Progress, nothing, inRules, inOnsets, headRefusal, divisionRefusal}
+use Rattle.sheet.specs.Reading.{leafRefusal}
+use Rattle.sheet.specs.Reading.{ruleRefusal, playingRefusal, onsetForm, momentRefusal, roomRefusal, onsetRefusal, rulesRefusal}
+use Rattle.sheet.specs.Reading.{refusal}
 use Rattle.sheet.specs.Reading.{after, atEnd, readLines, readSheet}
 use Rattle.sheet.specs.Laws.{too-long, ill-formed, well-formed}
 

@@ -1,5 +1,5 @@
--- What an operation comes to (document 01, "When it says no"): a refusal, document 01's word for an answer that gives a number and a line in
--- place of a result, or an accepted call with its value. Every entry's outcome is one of these, over its own values.
+-- What an operation comes to (document 01, "When it says no"): a refusal, document 01's word for an answer that gives a number and a line
+-- in place of a result, or an accepted call with its value. Every entry's outcome is one of these, over its own values.
 use Prim.Native.Nat.{ℕ}
 use mathlib.Core.Path.{_≡_}
 use mathlib.Core.Bool.{true, false, false≢true}

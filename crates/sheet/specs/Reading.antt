@@ -7,7 +7,8 @@ use lib.ListN.{length, getD}
 use lib.Dec.{ltb, leb, eqb}
 use Rattle.hextext.specs.Text.{badLine, lines}
 use Rattle.sheet.specs.declared.line.Line.{Line}
-use Rattle.sheet.specs.Sheet.{Rule, division, leaf, Onset, Grammar, Playing, Sheet, Timing, TimedSheet, unitOf, unitIn, endOf, barOf, inBar}
+use Rattle.sheet.specs.Sheet.{Rule, division, leaf, Onset, Grammar, Playing, Sheet, Timing, TimedSheet, unitOf, unitIn, endOf, barOf}
+use Rattle.sheet.specs.Sheet.{inBar}
 use Rattle.sheet.specs.Outcome.{Outcome, refused, accepted, andThen}
 
 -- a demand: the number of the refusal where the test fails, and what comes after it where it holds; 0 is no refusal
@@ -196,7 +197,8 @@ readFormed (suc n) t = refused 2 (suc n)
 -- refusal 1, text over 16,384 bytes; then 2; then line by line 3, 4, 5, 6, 7, 8
 unfoldable pub readSheet : List ℕ → Outcome TimedSheet
 unfolding readFormed badLine readLines lines lineOf atEnd refusal rulesRefusal ruleRefusal ruleOf after headRefusal headOf divisionRefusal
-    divisionOf allBelow bytesFrom leafRefusal leafOf withRule playingRefusal playingOf timingOf onsetForm momentRefusal roomRefusal onsetRefusal
+    divisionOf allBelow bytesFrom leafRefusal leafOf withRule playingRefusal playingOf timingOf onsetForm momentRefusal roomRefusal
+    onsetRefusal
     onsetOf withOnset inBar unitOf two four
 readSheet t = elim (leb (length t) 16384) [ true ↦ readFormed (badLine t) t | false ↦ refused 1 0 ]
 

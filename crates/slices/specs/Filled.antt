@@ -24,7 +24,8 @@ equal-further xs ys n m h e =
     subst (λ i. drop i ys ≡ drop i xs) k (sym (drop-drop (m - n) n ys) ∙ ap (drop (m - n)) e ∙ drop-drop (m - n) n xs)
 
 -- one cell more
-pub filled-more : {f : ℕ → ℕ} {xs ys : List ℕ} {n : ℕ} {v : ℕ} → Filled f xs ys n → n < length xs → v ≡ f n → Filled f xs (set ys n v) (n + 1)
+pub filled-more : {f : ℕ → ℕ} {xs ys : List ℕ} {n : ℕ} {v : ℕ} → Filled f xs ys n → n < length xs → v ≡ f n
+    → Filled f xs (set ys n v) (n + 1)
 filled-more {f} {xs} {ys} {n} {v} t l e =
     let k : n < length ys = omega (arith, t .size) in
     record {

@@ -8,7 +8,8 @@ use native.Mathlib.Nat.{zero-add, suc-ne-zero}
 use lib.ListN.{length, length-append}
 use Rattle.sheet.specs.Sheet.{division, leaf, Onset, Sheet}
 use Rattle.derivations.specs.Derivation.{Item, Expansion, Price, derive, unspent, price-eq, cons-derive, derive-append}
-use Rattle.trees.specs.ValidTrees.{Forest, Tree, written, writtenAll, early, adjoining, bars, ruleAt, mayDivide, Leaf, byLeaf, byDivision}
+use Rattle.trees.specs.ValidTrees.{Forest, Tree, written, writtenAll, early, adjoining, bars, ruleAt, mayDivide, Leaf, byLeaf}
+use Rattle.trees.specs.ValidTrees.{byDivision}
 use Rattle.trees.specs.ValidTrees.{ParsedAll, emptyForest, nextTree, placedFrom, carriedOut, ValidTree, ruleWeight, Priced}
 use Rattle.trees.specs.Instance.{atLeaf, atDivision, instanceOf, Derived}
 use Rattle.trees.specs.Expansions.{LeafStep, DivisionStep, leaf-expands, division-expands}

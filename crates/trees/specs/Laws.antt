@@ -25,8 +25,11 @@ use Rattle.trees.specs.Room.{good-division}
 pub adjoining-every : (X : Item → Type 0) (l p : ℕ) (qs : List ℕ)
     → ((j q : ℕ) → j < length qs → X (record { nonterminal = q; left = l + j * p; len = p })) → Every X (adjoining l p qs)
 adjoining-every X l p [] h = tt
-adjoining-every X l p (q ∷ qs) h =
-    (at-left (omega arith) (h 0 q (omega arith)), adjoining-every X (l + p) p qs (λ j k i. at-left (omega arith) (h (suc j) k (omega arith))))
+adjoining-every X l p (q ∷ qs) h = (
+  at-left (omega arith) (h 0 q (omega arith)),
+  adjoining-every X (l + p) p qs
+      (λ j k i. at-left (omega arith) (h (suc j) k (omega arith))),
+)
   where
     at-left : {x y k : ℕ} → x ≡ y → X (record { nonterminal = k; left = x; len = p }) → X (record { nonterminal = k; left = y; len = p })
     at-left {k = k} e t = subst (λ (z : ℕ). X (record { nonterminal = k; left = z; len = p })) e t

@@ -50,4 +50,5 @@ module _ (s : Sheet) (good : GoodRules (s .grammar)) where
   pub at-most-ten-nest : (bs : List ℕ) (v : ValidTree s bs) → nestingAll (v .trees) ≤ 10
   unfolding bars
   at-most-ten-nest bs v =
-      nests (v .parsed) 10 (adjoining-every _ 0 barUnits (replicate (s .playing .bars) (s .grammar .start)) (λ j c i. omega (arith, depth-bar)))
+      nests (v .parsed) 10 (adjoining-every _ 0 barUnits (replicate (s .playing .bars) (s .grammar .start))
+      (λ j c i. omega (arith, depth-bar)))

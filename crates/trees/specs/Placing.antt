@@ -10,7 +10,8 @@ use Rattle.sheet.specs.Sheet.{Onset, Sheet, barUnits}
 use Rattle.sheet.specs.Good.{Rising, GoodOnsets}
 use Rattle.derivations.specs.Derivation.{Item}
 use Rattle.trees.specs.ValidTrees.{Forest, whose, early, late, adjoining, bars, mayDivide, Leaf, byLeaf, byDivision}
-use Rattle.trees.specs.ValidTrees.{ParsedAll, emptyForest, nextTree, Entry, placedFrom, carriedOut, entries, ValidTree, distanceTo, distanceOf}
+use Rattle.trees.specs.ValidTrees.{ParsedAll, emptyForest, nextTree, Entry, placedFrom, carriedOut, entries, ValidTree, distanceTo}
+use Rattle.trees.specs.ValidTrees.{distanceOf}
 use Rattle.trees.specs.Instance.{ownDistance}
 use Rattle.trees.specs.Expansions.{may-divide, parts-whole}
 use Rattle.trees.specs.Order.{within, within-append, within-none, within-all, early-then-late}
@@ -72,7 +73,8 @@ leaves-adjoin s p =
     let n = s .playing .bars in
     let ks : List ℕ = replicate n (s .grammar .start) in
     forest-adjoins s p 0 (n * barUnits)
-    (subst (ItemsAdjoin 0 (adjoining 0 barUnits ks)) (omega (arith, length-replicate n (s .grammar .start))) (adjoining-items 0 barUnits ks))
+    (subst (ItemsAdjoin 0 (adjoining 0 barUnits ks)) (omega (arith, length-replicate n (s .grammar .start)))
+    (adjoining-items 0 barUnits ks))
 
 -- ---- distances
 

@@ -1,5 +1,5 @@
--- `suffix_costs` meets its contract: the vector itself behind the last part, or what `passed` gives of each carry state, one after the other. The
--- table stays sound from one to the next (`suffix-from`). Assumes nothing.
+-- `suffix_costs` meets its contract: the vector itself behind the last part, or what `passed` gives of each carry state, one after the
+-- other. The table stays sound from one to the next (`suffix-from`). Assumes nothing.
 use Prim.Native.Nat.{ℕ}
 use mathlib.Core.Path.{sym, _∙_}
 use mathlib.Core.List.{List}

@@ -23,18 +23,18 @@ slice-relend-prefix-find c = search needs
 
 slice-aggregate-find : tie.Need-slice-aggregate-find
 slice-aggregate-find c =
-    let least = c .before .before .before .before .before .before .before .before .before .before .least in
-    let fill = c .before .before .before .before .before .before .before .fill-from in
-    sym (length-take-le (least .result) _ (omega (arith, least .ensures, fill .ensures)))
+    let at-fill = c .before .before .before .before .before .before .before in
+    let at-least = at-fill .before .before .before in
+    sym (length-take-le (at-least .least .result) _ (omega (arith, at-least .least .ensures, at-fill .fill-from .ensures)))
 
 slice-relend-prefix-find-2 : tie.Need-slice-relend-prefix-find-2
 slice-relend-prefix-find-2 c = search needs
 
 slice-aggregate-find-2 : tie.Need-slice-aggregate-find-2
 slice-aggregate-find-2 c =
-    let least = c .before .before .before .before .before .before .before .before .before .before .least2 in
-    let fill = c .before .before .before .before .fill-cells in
-    sym (length-take-le (least .result) _ (omega (arith, least .ensures, fill .ensures)))
+    let at-fill = c .before .before .before .before in
+    let at-least = at-fill .before .before .before .before .before .before in
+    sym (length-take-le (at-least .least2 .result) _ (omega (arith, at-least .least2 .ensures, at-fill .fill-cells .ensures)))
 
 find-requires : tie.Need-find-requires
 find-requires c κs = search needs

@@ -47,9 +47,9 @@ write-all-requires c κs = search needs
 
 slice-aggregate-write-line : tie.Need-slice-aggregate-write-line
 slice-aggregate-write-line c =
-    let start = c .before .before .before .before .before .before .before .before .before .before .before .before in
-    let least = c .before .before .before .before .before .before .before .before .before .least in
-    sym (length-take-le (least .result) (start .args .tree .now) (omega (arith, least .ensures, start .pre)))
+    let at-least = c .before .before .before .before .before .before .before .before .before in
+    let at-start = at-least .before .before .before in
+    sym (length-take-le (at-least .least .result) (at-start .args .tree .now) (omega (arith, at-least .least .ensures, at-start .pre)))
 
 write-line-requires : tie.Need-write-line-requires
 write-line-requires c κs = search needs

@@ -20,33 +20,36 @@ enum-known-found c = search needs
 
 slice-reshare-prefix-figures : tie.Need-slice-reshare-prefix-figures
 slice-reshare-prefix-figures c =
-    let start = c .before .before .before .before .before .before .before .before .before .before .before .before in
-    let least-tree = c .before .before .before .before .before .before .before .least-tree in
-    let found = c .before .found in
-    let (s, entry) = start .pre in
+    let at-found = c .before in
+    let at-least-tree = at-found .before .before .before .before .before .before in
+    let at-start = at-least-tree .before .before .before .before .before in
+    let (s, entry) = at-start .pre in
     nodes-fit entry _ _ _ _
-    (subst (Searched s (start .args .tree .now) _ (start .args .work .now) _) (found .given .1) (least-tree .ensures s entry))
+    (subst (Searched s (at-start .args .tree .now) _ (at-start .args .work .now) _) (at-found .found .given .1)
+    (at-least-tree .least-tree .ensures s entry))
 
 slice-aggregate-figures : tie.Need-slice-aggregate-figures
 slice-aggregate-figures c =
-    let start = c .before .before .before .before .before .before .before .before .before .before .before .before .before in
-    let least-tree = c .before .before .before .before .before .before .before .before .least-tree in
-    let found = c .before .before .found in
-    let (s, entry) = start .pre in
+    let at-found = c .before .before in
+    let at-least-tree = at-found .before .before .before .before .before .before in
+    let at-start = at-least-tree .before .before .before .before .before in
+    let (s, entry) = at-start .pre in
     front-size entry _ _ _ _
-    (subst (Searched s (start .args .tree .now) _ (start .args .work .now) _) (found .given .1) (least-tree .ensures s entry))
+    (subst (Searched s (at-start .args .tree .now) _ (at-start .args .work .now) _) (at-found .found .given .1)
+    (at-least-tree .least-tree .ensures s entry))
 
 figures-requires : tie.Need-figures-requires
 figures-requires c κs =
-    let start = c .before .before .before .before .before .before .before .before .before .before .before .before .before in
-    let least-tree = c .before .before .before .before .before .before .before .before .least-tree in
-    let found = c .before .before .found in
-    let (s, entry) = start .pre in (
+    let at-found = c .before .before in
+    let at-least-tree = at-found .before .before .before .before .before .before in
+    let at-start = at-least-tree .before .before .before .before .before in
+    let (s, entry) = at-start .pre in (
       s,
       _,
       _,
       figures-pre entry _ _ _ _
-          (subst (Searched s (start .args .tree .now) _ (start .args .work .now) _) (found .given .1) (least-tree .ensures s entry)),
+          (subst (Searched s (at-start .args .tree .now) _ (at-start .args .work .now) _) (at-found .found .given .1)
+          (at-least-tree .least-tree .ensures s entry)),
     )
 
 same-length : tie.Need-same-length
@@ -57,13 +60,13 @@ same-length-2 c = search needs
 
 returns : tie.Need-returns
 returns c =
-    let start = c .before .before .before .before .before .before .before .before .before .before .before .before in
-    let least-tree = c .before .before .before .before .before .before .before .least-tree in
-    let enum-told = c .before .enum-told in
-    let refused = c .refused in
+    let at-enum-told = c .before in
+    let at-least-tree = at-enum-told .before .before .before .before .before .before in
+    let at-start = at-least-tree .before .before .before .before .before in
     λ s entry. nothing-found entry _ _
-    (subst (Searched s (start .args .tree .now) _ (start .args .work .now) _) (enum-told .given .1) (least-tree .ensures s entry)) _
-    (refused .ensures)
+    (subst (Searched s (at-start .args .tree .now) _ (at-start .args .work .now) _) (at-enum-told .enum-told .given .1)
+    (at-least-tree .least-tree .ensures s entry)) _
+    (c .refused .ensures)
 
 same-length-3 : tie.Need-same-length-3
 same-length-3 c = search needs
@@ -73,13 +76,13 @@ same-length-4 c = search needs
 
 returns-2 : tie.Need-returns-2
 returns-2 c =
-    let start = c .before .before .before .before .before .before .before .before .before .before .before .before .before .before in
-    let least-tree = c .before .before .before .before .before .before .before .before .before .least-tree in
-    let found = c .before .before .before .found in
-    let figures = c .figures in
+    let at-found = c .before .before .before in
+    let at-least-tree = at-found .before .before .before .before .before .before in
+    let at-start = at-least-tree .before .before .before .before .before in
     λ s entry.
-    let told = subst (Searched s (start .args .tree .now) _ (start .args .work .now) _) (found .given .1) (least-tree .ensures s entry) in
-    tree-found entry _ _ _ _ told _ (figures .ensures s _ _ (figures-pre entry _ _ _ _ told))
+    let told = subst (Searched s (at-start .args .tree .now) _ (at-start .args .work .now) _) (at-found .found .given .1)
+    (at-least-tree .least-tree .ensures s entry) in
+    tree-found entry _ _ _ _ told _ (c .figures .ensures s _ _ (figures-pre entry _ _ _ _ told))
 
 pub find-least-spec : {M : Type 1} → statement M
 find-least-spec =

@@ -26,26 +26,27 @@ refused-requires-2 c κs = search needs
 
 returns-2 : tie.Need-returns-2
 returns-2 c =
-    let start = c .before .before .before .before .before .before .before in
-    let work-cells = c .before .before .before .before .work-cells in
-    let if1 = c .before .before .before .if1 in
-    let tree-bytes = c .before .before .tree-bytes in
-    let if2 = c .before .if2 in
-    let refused2 = c .refused2 in
-    λ s h. short-tree h (start .args .tree .now) (start .args .work .now) _ (work-cells .ensures) (if1 .left) _ (tree-bytes .ensures)
-    (if2 .taken) _ (refused2 .ensures)
+    let at-if2 = c .before in
+    let at-tree-bytes = at-if2 .before in
+    let at-if1 = at-tree-bytes .before in
+    let at-work-cells = at-if1 .before in
+    let at-start = at-work-cells .before .before .before in
+    λ s h. short-tree h (at-start .args .tree .now) (at-start .args .work .now) _ (at-work-cells .work-cells .ensures) (at-if1 .if1 .left)
+    _ (at-tree-bytes .tree-bytes .ensures)
+    (at-if2 .if2 .taken) _ (c .refused2 .ensures)
 
 find-least-requires : tie.Need-find-least-requires
 find-least-requires c κs =
-    let start = c .before .before .before .before .before .before .before .before in
-    let work-cells = c .before .before .before .before .before .work-cells in
-    let if1 = c .before .before .before .before .if1 in
-    let tree-bytes = c .before .before .before .tree-bytes in
-    let if2 = c .before .before .if2 in
-    let (s, h) = start .pre in (
+    let at-if2 = c .before .before in
+    let at-tree-bytes = at-if2 .before in
+    let at-if1 = at-tree-bytes .before in
+    let at-work-cells = at-if1 .before in
+    let at-start = at-work-cells .before .before .before in
+    let (s, h) = at-start .pre in (
       s,
-      search-pre h (start .args .tree .now) (start .args .work .now) _ (work-cells .ensures) (if1 .left) _ (tree-bytes .ensures)
-          (if2 .left),
+      search-pre h (at-start .args .tree .now) (at-start .args .work .now) _ (at-work-cells .work-cells .ensures) (at-if1 .if1 .left) _
+          (at-tree-bytes .tree-bytes .ensures)
+          (at-if2 .if2 .left),
     )
 
 same-length : tie.Need-same-length
@@ -56,14 +57,15 @@ same-length-2 c = search needs
 
 returns-3 : tie.Need-returns-3
 returns-3 c =
-    let start = c .before .before .before .before .before .before .before .before .before .before .before .before .before in
-    let work-cells = c .before .before .before .before .before .before .before .before .before .before .work-cells in
-    let if1 = c .before .before .before .before .before .before .before .before .before .if1 in
-    let tree-bytes = c .before .before .before .before .before .before .before .before .tree-bytes in
-    let if2 = c .before .before .before .before .before .before .before .if2 in
-    let find-least = c .before .before .before .before .find-least in
-    λ s h. find-least .ensures s (search-pre h (start .args .tree .now) (start .args .work .now) _ (work-cells .ensures) (if1 .left) _
-    (tree-bytes .ensures) (if2 .left))
+    let at-find-least = c .before .before .before .before in
+    let at-if2 = at-find-least .before .before .before in
+    let at-tree-bytes = at-if2 .before in
+    let at-if1 = at-tree-bytes .before in
+    let at-work-cells = at-if1 .before in
+    let at-start = at-work-cells .before .before .before in
+    λ s h. at-find-least .find-least .ensures s
+    (search-pre h (at-start .args .tree .now) (at-start .args .work .now) _ (at-work-cells .work-cells .ensures) (at-if1 .if1 .left) _
+    (at-tree-bytes .tree-bytes .ensures) (at-if2 .if2 .left))
 
 pub find-sheet-spec : {M : Type 1} → statement M
 find-sheet-spec =

@@ -38,8 +38,12 @@ loop-less c = search needs
 loop-again : tie.Need-loop-again Inv-loop μ-loop
 loop-again c =
     let text = c .before .before .before .before .before .before .before .args .text .now in
-    let loop = c .before .before .before .before .loop in
-    (search needs, search needs, loop .inv .2 ∙ bad-close (loop .line) (loop .begun) text (loop .i) (search needs) (c .before .if2 .taken) (c .if3 .taken))
+    let loop = c .before .before .before .before .loop in (
+      search needs,
+      search needs,
+      loop .inv .2 ∙ bad-close (loop .line) (loop .begun) text (loop .i) (search needs) (c .before .if2 .taken)
+          (c .if3 .taken),
+    )
 
 returns-2 : tie.Need-returns-2 Inv-loop μ-loop
 returns-2 c =
@@ -67,15 +71,21 @@ loop-less-2 c = search needs
 
 loop-again-2 : tie.Need-loop-again-2 Inv-loop μ-loop
 loop-again-2 c =
-    let text = c .before .before .before .before .before .before .before .before .before .before .args .text .now in
-    let loop = c .before .before .before .before .before .before .before .loop in
-    (search needs, search needs, loop .inv .2 ∙ bad-pair (loop .line) (loop .begun) text (loop .i) (search needs) (search needs) (sym (c .before .is-pair .ensures) ∙ c .if5 .taken))
+    let at-loop = c .before .before .before .before .before .before .before in
+    let text = at-loop .before .before .before .args .text .now in
+    let loop = at-loop .loop in (
+      search needs,
+      search needs,
+      loop .inv .2 ∙ bad-pair (loop .line) (loop .begun) text (loop .i) (search needs) (search needs)
+          (sym (c .before .is-pair .ensures) ∙ c .if5 .taken),
+    )
 
 returns-4 : tie.Need-returns-4 Inv-loop μ-loop
 returns-4 c =
-    let text = c .before .before .before .before .before .before .before .before .before .before .args .text .now in
-    let loop = c .before .before .before .before .before .before .before .loop in
-    sym (loop .inv .2 ∙ bad-no-pair (loop .line) (loop .begun) text (loop .i) (search needs) (search needs) (c .before .before .before .before .if2 .left) (sym (c .before .is-pair .ensures) ∙ c .if5 .left))
+    let at-loop = c .before .before .before .before .before .before .before in
+    let text = at-loop .before .before .before .args .text .now in
+    sym (at-loop .loop .inv .2 ∙ bad-no-pair (at-loop .loop .line) (at-loop .loop .begun) text (at-loop .loop .i) (search needs)
+    (search needs) (c .before .before .before .before .if2 .left) (sym (c .before .is-pair .ensures) ∙ c .if5 .left))
 
 returns-5 : tie.Need-returns-5 Inv-loop μ-loop
 returns-5 c =

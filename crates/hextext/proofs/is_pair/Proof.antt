@@ -13,7 +13,8 @@ is-digit-requires-2 : tie.Need-is-digit-requires-2
 is-digit-requires-2 c κs = search needs
 
 returns : tie.Need-returns
-returns c = c .is-digit2 .ensures ∙ ap (λ (d : Bool). d && isDigit (c .before .before .before .args .second)) (sym (c .before .if1 .taken) ∙ c .before .before .is-digit .ensures)
+returns c = c .is-digit2 .ensures ∙ ap (λ (d : Bool). d && isDigit (c .before .before .before .args .second))
+    (sym (c .before .if1 .taken) ∙ c .before .before .is-digit .ensures)
 
 returns-2 : tie.Need-returns-2
 returns-2 c = ap (λ (d : Bool). d && isDigit (c .before .before .args .second)) (sym (c .if1 .left) ∙ c .before .is-digit .ensures)

@@ -11,7 +11,7 @@ use borrow.Fn.PlainCycle.{Measures, is, falls, and}
 use Rattle.listing.proofs.explore.Reads as explore
 use Rattle.listing.proofs.explore.Kinds as explore-kinds
 use Rattle.listing.proofs.+explore.Lts-explore as explore-lts
-use Rattle.expansions.proofs.packed.unpacked.Reads as unpacked-reads
+use Rattle.expansions.proofs.unpacked.Reads as unpacked-reads
 use Rattle.listing.proofs.gone_wrong.Reads as gone-wrong-reads
 use Rattle.listing.proofs.items.is_allowed.Reads as is-allowed-reads
 use Rattle.listing.proofs.items.move_at.Reads as move-at-reads

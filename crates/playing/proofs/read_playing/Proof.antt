@@ -30,7 +30,8 @@ returns c g good some kind =
     let at-line = at-refusal .before .before .before in
     let at-start = at-line .before .before in
     take-refused _ (at-if1 .if1 .taken)
-    (head-refused (at-start .args .text .now) (at-start .args .at) (at-start .args .line) (at-start .pre .0) g some kind _ (at-line .line-at .ensures .line)
+    (head-refused (at-start .args .text .now) (at-start .args .at) (at-start .args .line) (at-start .pre .0) g some kind _
+    (at-line .line-at .ensures .line)
     _ (at-refusal .playing-refusal .ensures) (at-if1 .if1 .taken))
 
 add-read-onsets : tie.Need-add-read-onsets
@@ -61,7 +62,8 @@ returns-2 c g good some kind =
     let at-four = at-refusal .before in
     let at-line = at-four .before .before in
     let at-start = at-line .before .before in
-    head-on (at-start .args .text .now) (at-start .args .at) (at-start .args .line) (at-start .pre .0) g some kind _ (at-line .line-at .ensures .line)
+    head-on (at-start .args .text .now) (at-start .args .at) (at-start .args .line) (at-start .pre .0) g some kind _
+    (at-line .line-at .ensures .line)
     (sym (at-refusal .playing-refusal .ensures) ∙ at-if1 .if1 .left) _ (at-four .four-at .ensures) _ (at-line .line-at .ensures .next) _
     (c .read-onsets .ensures g)
 

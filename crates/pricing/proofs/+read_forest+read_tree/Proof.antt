@@ -18,7 +18,8 @@ use Rattle.pricing.proofs.+read_forest+read_tree.Tie.{close}
 pub +read-forest+read-tree-spec : {M : Type 1} → statement M
 +read-forest+read-tree-spec =
     close μ-read-forest μ-read-tree
-    (λ t. read-forest-lts.spec (row-needs.calls t) (read-forest-at t) read-forest.Post row-needs.Inv-loop row-needs.μ-loop (row-needs.loop-holds t)
+    (λ t. read-forest-lts.spec (row-needs.calls t) (read-forest-at t) read-forest.Post row-needs.Inv-loop row-needs.μ-loop
+    (row-needs.loop-holds t)
     (row-needs.shared-slice-read-read-tree t) (row-needs.read-tree-requires t) (row-needs.add-j t) (row-needs.add-left t)
     (row-needs.enum-told t) (row-needs.returns t) (row-needs.enum-known-w t) (row-needs.loop-less t) (row-needs.loop-again t)
     (row-needs.returns-2 t))

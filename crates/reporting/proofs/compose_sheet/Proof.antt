@@ -1,5 +1,5 @@
--- `compose_sheet` meets its contract: the line of a refusal of finding, or of 13; else the score lines of the tree found, whose price is the
--- answer of finding. Assumes nothing.
+-- `compose_sheet` meets its contract: the line of a refusal of finding, or of 13; else the score lines of the tree found, whose price is
+-- the answer of finding. Assumes nothing.
 use mathlib.Core.Path.{refl}
 use Rattle.reporting.proofs.ReportSteps.{refusal-reported, nodes-within, list-size, priced-pre, short-reported, score-reported}
 use borrow.Author.Needs.{needs}
@@ -20,35 +20,34 @@ same-length-2 c = search needs
 
 returns : tie.Need-returns
 returns c =
-    let refuse = c .refuse in
-    let if1 = c .before .before .if1 in
-    let find-sheet = c .before .before .before .before .before .before .before .find-sheet in
-    λ s h. refusal-reported h (find-sheet .ensures s h) (if1 .taken) _ _ _ (refuse .ensures .1) _ (refuse .ensures .0)
+    let at-if1 = c .before .before in
+    let at-find-sheet = at-if1 .before .before .before .before .before in
+    λ s h. refusal-reported h (at-find-sheet .find-sheet .ensures s h) (at-if1 .if1 .taken) _ _ _ (c .refuse .ensures .1) _
+    (c .refuse .ensures .0)
 
 slice-reshare-prefix-write-priced : tie.Need-slice-reshare-prefix-write-priced
 slice-reshare-prefix-write-priced c =
-    let if1 = c .if1 in
-    let find-sheet = c .before .before .before .before .before .find-sheet in
-    let start = c .before .before .before .before .before .before .before .before .before .before .before in
-    let h = start .pre .1 in
-    nodes-within h (find-sheet .ensures (start .pre .0) h) (if1 .left)
+    let at-find-sheet = c .before .before .before .before .before in
+    let at-start = at-find-sheet .before .before .before .before .before .before in
+    let h = at-start .pre .1 in
+    nodes-within h (at-find-sheet .find-sheet .ensures (at-start .pre .0) h) (c .if1 .left)
 
 slice-aggregate-write-priced : tie.Need-slice-aggregate-write-priced
 slice-aggregate-write-priced c =
-    let if1 = c .before .if1 in
-    let find-sheet = c .before .before .before .before .before .before .find-sheet in
-    let start = c .before .before .before .before .before .before .before .before .before .before .before .before in
-    let h = start .pre .1 in
-    list-size h (find-sheet .ensures (start .pre .0) h) (if1 .left)
+    let at-if1 = c .before in
+    let at-find-sheet = at-if1 .before .before .before .before .before in
+    let at-start = at-find-sheet .before .before .before .before .before .before in
+    let h = at-start .pre .1 in
+    list-size h (at-find-sheet .find-sheet .ensures (at-start .pre .0) h) (at-if1 .if1 .left)
 
 write-priced-requires : tie.Need-write-priced-requires
 write-priced-requires c κs =
-    let if1 = c .before .before .if1 in
-    let find-sheet = c .before .before .before .before .before .before .before .find-sheet in
-    let start = c .before .before .before .before .before .before .before .before .before .before .before .before .before in
-    let s = start .pre .0 in
-    let h = start .pre .1 in
-    (s, priced-pre h (find-sheet .ensures s h) (if1 .left))
+    let at-if1 = c .before .before in
+    let at-find-sheet = at-if1 .before .before .before .before .before in
+    let at-start = at-find-sheet .before .before .before .before .before .before in
+    let s = at-start .pre .0 in
+    let h = at-start .pre .1 in
+    (s, priced-pre h (at-find-sheet .find-sheet .ensures s h) (at-if1 .if1 .left))
 
 refuse-requires-2 : tie.Need-refuse-requires-2
 refuse-requires-2 c κs = search needs
@@ -64,18 +63,17 @@ same-length-5 c = search needs
 
 returns-2 : tie.Need-returns-2
 returns-2 c =
-    let refuse2 = c .refuse2 in
-    let if2 = c .before .before .if2 in
-    let write-priced = c .before .before .before .before .before .write-priced in
-    let if1 = c .before .before .before .before .before .before .before .before .if1 in
-    let find-sheet = c .before .before .before .before .before .before .before .before .before .before .before .before .before .find-sheet in
-    let further = c .before .before .before .before .before .before .before .before .before .before .before .before in
-    let start = further .before .before .before .before .before .before .before in
+    let at-if2 = c .before .before in
+    let at-write-priced = at-if2 .before .before .before in
+    let at-if1 = at-write-priced .before .before .before in
+    let at-find-sheet = at-if1 .before .before .before .before .before in
+    let at-start = at-find-sheet .before .before .before .before .before .before in
     λ s h.
-    let f = find-sheet .ensures s h in
-    let entry = priced-pre h f (if1 .left) in
-    short-reported h f (if1 .left) (start .args .score .now) _ (write-priced .result) (write-priced .ensures s entry)
-    (if2 .taken) _ _ (refuse2 .ensures .1) _ (refuse2 .ensures .0)
+    let f = at-find-sheet .find-sheet .ensures s h in
+    let entry = priced-pre h f (at-if1 .if1 .left) in
+    short-reported h f (at-if1 .if1 .left) (at-start .args .score .now) _ (at-write-priced .write-priced .result)
+    (at-write-priced .write-priced .ensures s entry)
+    (at-if2 .if2 .taken) _ _ (c .refuse2 .ensures .1) _ (c .refuse2 .ensures .0)
 
 same-length-6 : tie.Need-same-length-6
 same-length-6 c = search needs
@@ -88,17 +86,16 @@ same-length-8 c = search needs
 
 returns-3 : tie.Need-returns-3
 returns-3 c =
-    let if2 = c .if2 in
-    let write-priced = c .before .before .before .write-priced in
-    let if1 = c .before .before .before .before .before .before .if1 in
-    let find-sheet = c .before .before .before .before .before .before .before .before .before .before .before .find-sheet in
-    let further = c .before .before .before .before .before .before .before .before .before .before .before .before in
-    let start = further .before .before .before .before .before in
+    let at-write-priced = c .before .before .before in
+    let at-if1 = at-write-priced .before .before .before in
+    let at-find-sheet = at-if1 .before .before .before .before .before in
+    let at-start = at-find-sheet .before .before .before .before .before .before in
     λ s h.
-    let f = find-sheet .ensures s h in
-    let entry = priced-pre h f (if1 .left) in
-    score-reported h f (if1 .left) (start .args .score .now) _ (write-priced .result) (write-priced .ensures s entry)
-    (if2 .left) _ _ refl
+    let f = at-find-sheet .find-sheet .ensures s h in
+    let entry = priced-pre h f (at-if1 .if1 .left) in
+    score-reported h f (at-if1 .if1 .left) (at-start .args .score .now) _ (at-write-priced .write-priced .result)
+    (at-write-priced .write-priced .ensures s entry)
+    (c .if2 .left) _ _ refl
 
 pub compose-sheet-spec : {M : Type 1} → statement M
 compose-sheet-spec =

@@ -42,12 +42,12 @@ same-length-3 c = search needs
 
 returns : tie.Need-returns
 returns c =
-    let restore = c .before .before .restore in
-    let answered = c .before .before .before .before .before .before .before .before .before .before .before in
-    let copied = answered .before .before .before .before .before .before in
+    let at-restore = c .before .before in
+    let at-answered = at-restore .before .before .before .before .before .before .before .before .before in
+    let copied = at-answered .before .before .before .before .before .before in
     let front = copied .before .before .before .front in
-    reported (answered .compose .last .1 .1 .0) (front .ensures .0) (front .ensures .1) (front .ensures .2) (copied .copy .ensures)
-    (answered .compose .ensures) (restore .ensures)
+    reported (at-answered .compose .last .1 .1 .0) (front .ensures .0) (front .ensures .1) (front .ensures .2) (copied .copy .ensures)
+    (at-answered .compose .ensures) (at-restore .restore .ensures)
 
 pub report-spec : {M : Type 1} → statement M
 report-spec =

@@ -35,46 +35,52 @@ refused-requires-2 c κs = search needs
 
 returns-2 : tie.Need-returns-2
 returns-2 c =
-    let refused2 = c .refused2 in
-    let if2 = c .before .if2 in
-    let text-size = c .before .before .text-size in
-    let count-leaves = c .before .before .before .count-leaves in
-    let pack-rules = c .before .before .before .before .before .pack-rules in
-    let if1 = c .before .before .before .before .before .before .if1 in
-    let start = c .before .before .before .before .before .before .before .before .before in
+    let at-if2 = c .before in
+    let at-text-size = at-if2 .before in
+    let at-count-leaves = at-text-size .before in
+    let at-pack-rules = at-count-leaves .before .before in
+    let at-if1 = at-pack-rules .before in
+    let at-start = at-if1 .before .before .before in
     λ s h.
-    let t = price-given s (start .args .list .now) _ (h .own) (if1 .left) in
-    short (h .held) t _ (pack-rules .ensures) _ (count-leaves .ensures) _ _ (text-size .ensures) (if2 .taken) _ (refused2 .ensures)
+    let t = price-given s (at-start .args .list .now) _ (h .own) (at-if1 .if1 .left) in
+    short (h .held) t _ (at-pack-rules .pack-rules .ensures) _ (at-count-leaves .count-leaves .ensures) _ _
+    (at-text-size .text-size .ensures) (at-if2 .if2 .taken) _ (c .refused2 .ensures)
 
 write-text-requires : tie.Need-write-text-requires
 write-text-requires c κs =
-    let if2 = c .before .before .if2 in
-    let text-size = c .before .before .before .text-size in
-    let count-leaves = c .before .before .before .before .count-leaves in
-    let pack-rules = c .before .before .before .before .before .before .pack-rules in
-    let if1 = c .before .before .before .before .before .before .before .if1 in
-    let start = c .before .before .before .before .before .before .before .before .before .before in
-    let s = start .pre .0 in
-    let h = start .pre .1 in
-    let t = price-given s (start .args .list .now) _ (h .own) (if1 .left) in
-    (s, text-pre (h .held) t _ (pack-rules .ensures) _ (count-leaves .ensures) _ _ (text-size .ensures) (if2 .left))
+    let at-if2 = c .before .before in
+    let at-text-size = at-if2 .before in
+    let at-count-leaves = at-text-size .before in
+    let at-pack-rules = at-count-leaves .before .before in
+    let at-if1 = at-pack-rules .before in
+    let at-start = at-if1 .before .before .before in
+    let s = at-start .pre .0 in
+    let h = at-start .pre .1 in
+    let t = price-given s (at-start .args .list .now) _ (h .own) (at-if1 .if1 .left) in (
+      s,
+      text-pre (h .held) t _ (at-pack-rules .pack-rules .ensures) _ (at-count-leaves .count-leaves .ensures) _ _
+          (at-text-size .text-size .ensures) (at-if2 .if2 .left),
+    )
 
 same-length : tie.Need-same-length
 same-length c = search needs
 
 returns-3 : tie.Need-returns-3
 returns-3 c =
-    let write-text = c .before .before .write-text in
-    let if2 = c .before .before .before .before .before .if2 in
-    let text-size = c .before .before .before .before .before .before .text-size in
-    let count-leaves = c .before .before .before .before .before .before .before .count-leaves in
-    let pack-rules = c .before .before .before .before .before .before .before .before .before .pack-rules in
-    let if1 = c .before .before .before .before .before .before .before .before .before .before .if1 in
-    let start = c .before .before .before .before .before .before .before .before .before .before .before .before .before in
+    let at-write-text = c .before .before in
+    let at-if2 = at-write-text .before .before .before in
+    let at-text-size = at-if2 .before in
+    let at-count-leaves = at-text-size .before in
+    let at-pack-rules = at-count-leaves .before .before in
+    let at-if1 = at-pack-rules .before in
+    let at-start = at-if1 .before .before .before in
     λ s h.
-    let t = price-given s (start .args .list .now) _ (h .own) (if1 .left) in
-    sheet-written (h .held) t _ (pack-rules .ensures) _ (count-leaves .ensures) _ _ _ _ (text-size .ensures) (if2 .left)
-    (write-text .ensures s (text-pre (h .held) t _ (pack-rules .ensures) _ (count-leaves .ensures) _ _ (text-size .ensures) (if2 .left)))
+    let t = price-given s (at-start .args .list .now) _ (h .own) (at-if1 .if1 .left) in
+    sheet-written (h .held) t _ (at-pack-rules .pack-rules .ensures) _ (at-count-leaves .count-leaves .ensures) _ _ _ _
+    (at-text-size .text-size .ensures) (at-if2 .if2 .left)
+    (at-write-text .write-text .ensures s
+    (text-pre (h .held) t _ (at-pack-rules .pack-rules .ensures) _ (at-count-leaves .count-leaves .ensures) _ _
+    (at-text-size .text-size .ensures) (at-if2 .if2 .left)))
 
 pub write-priced-spec : {M : Type 1} → statement M
 write-priced-spec =

@@ -20,26 +20,29 @@ write-line-requires c κs = search needs
 
 write-bars-requires : tie.Need-write-bars-requires
 write-bars-requires c κs =
-    let write-line = c .before .before .before .before .before .before .write-line in
-    let head-line = c .before .before .before .before .before .before .before .before .before .head-line in
-    let pack-units = c .before .before .before .before .before .before .before .before .before .before .pack-units in
-    let start = c .before .before .before .before .before .before .before .before .before .before .before .before .before in
-    let s = start .pre .0 in
-    let h = start .pre .1 in
-    (s, bars-given h _ (head-line .ensures) _ _ (write-line .ensures) _ (pack-units .ensures (s .playing) (h .good) (h .playing)))
+    let at-write-line = c .before .before .before .before .before .before in
+    let at-head-line = at-write-line .before .before .before in
+    let at-pack-units = at-head-line .before in
+    let at-start = at-pack-units .before .before .before in
+    let s = at-start .pre .0 in
+    let h = at-start .pre .1 in (
+      s,
+      bars-given h _ (at-head-line .head-line .ensures) _ _ (at-write-line .write-line .ensures) _
+          (at-pack-units .pack-units .ensures (s .playing) (h .good) (h .playing)),
+    )
 
 same-length : tie.Need-same-length
 same-length c = search needs
 
 returns : tie.Need-returns
 returns c =
-    let write-bars = c .before .before .write-bars in
-    let write-line = c .before .before .before .before .before .before .before .before .before .write-line in
-    let head-line = c .before .before .before .before .before .before .before .before .before .before .before .before .head-line in
-    let pack-units = c .before .before .before .before .before .before .before .before .before .before .before .before .before .pack-units in
-    λ s h. text-done h _ (head-line .ensures) _ _ (write-line .ensures) _ _
-    (write-bars .ensures s (bars-given h _ (head-line .ensures) _ _ (write-line .ensures) _
-    (pack-units .ensures (s .playing) (h .good) (h .playing))))
+    let at-write-bars = c .before .before in
+    let at-write-line = at-write-bars .before .before .before .before .before .before .before in
+    let at-head-line = at-write-line .before .before .before in
+    let at-pack-units = at-head-line .before in
+    λ s h. text-done h _ (at-head-line .head-line .ensures) _ _ (at-write-line .write-line .ensures) _ _
+    (at-write-bars .write-bars .ensures s (bars-given h _ (at-head-line .head-line .ensures) _ _ (at-write-line .write-line .ensures) _
+    (at-pack-units .pack-units .ensures (s .playing) (h .good) (h .playing))))
 
 pub write-text-spec : {M : Type 1} → statement M
 write-text-spec =

@@ -15,7 +15,8 @@ use Rattle.sizes.proofs.work_cells.Tie as tie
 
 -- the product of all three counts is small
 product-small : (c : tie.After-struct-known2)
-    → c .before .before .before .before .args .g .nonterminals * c .before .before .before .lengths .result .count * c .before .before .most-in-bar .result ≤ 10967040
+    → c .before .before .before .before .args .g .nonterminals * c .before .before .before .lengths .result .count *
+    c .before .before .most-in-bar .result ≤ 10967040
 product-small c =
     let lengths = c .before .before .before .lengths in
     let most-in-bar = c .before .before .most-in-bar in

@@ -26,16 +26,18 @@ print-price-requires c κs = search needs
 
 slice-aggregate-print-score : tie.Need-slice-aggregate-print-score
 slice-aggregate-print-score c =
-    let start = c .before .before .before .before .before .before .before .before in
-    let least = c .before .before .before .before .least in
-    sym (length-take-le (least .result) (start .args .list .now) (let e : least .result ≡ min (start .args .how .length) (length
-    (start .args .list .now)) = least .ensures in omega arith))
+    let at-least = c .before .before .before .before in
+    let at-start = at-least .before .before .before .before in
+    sym (length-take-le (at-least .least .result) (at-start .args .list .now)
+    (let e : at-least .least .result ≡ min (at-start .args .how .length) (length
+    (at-start .args .list .now)) = at-least .least .ensures in omega arith))
 
 print-score-requires : tie.Need-print-score-requires
 print-score-requires c κs =
-    let start = c .before .before .before .before .before .before .before .before .before in
-    let least2 = c .before .before .before .before .least2 in
-    let e : least2 .result ≡ min (start .args .how .room) (length (start .args .score .now)) = least2 .ensures in
+    let at-least2 = c .before .before .before .before in
+    let at-start = at-least2 .before .before .before .before .before in
+    let e : at-least2 .least2 .result ≡ min (at-start .args .how .room)
+    (length (at-start .args .score .now)) = at-least2 .least2 .ensures in
     omega arith
 
 same-length : tie.Need-same-length

@@ -47,10 +47,11 @@ write-all-requires-3 c κs = search needs
 
 slice-aggregate-write-all-4 : tie.Need-slice-aggregate-write-all-4
 slice-aggregate-write-all-4 c =
-    let start = c .before .before .before .before .before .before .before .before .before .before .before .before .before .before in
-    let least = c .before .before .before .before .before .before .before .before .before .before .before .before .least in
-    sym (length-take-le (least .result) (start .args .score .now) (let e : least .result ≡ min (start .args .bytes)
-    (start .args .room) = least .ensures in omega (arith, start .pre)))
+    let at-least = c .before .before .before .before .before .before .before .before .before .before .before .before in
+    let at-start = at-least .before .before in
+    sym (length-take-le (at-least .least .result) (at-start .args .score .now)
+    (let e : at-least .least .result ≡ min (at-start .args .bytes)
+    (at-start .args .room) = at-least .least .ensures in omega (arith, at-start .pre)))
 
 write-all-requires-4 : tie.Need-write-all-requires-4
 write-all-requires-4 c κs = search needs

@@ -61,15 +61,15 @@ returns c =
     .before .before .before .before .next-line in
     let next-line2 = c .before .before .before .before .before .before .before .before .before .before .before .before .before .before
     .next-line2 in
-    let fill-from = c .before .before .before .before .before .before .before .before .before .before .before .fill-from in
-    let least = c .before .before .before .before .before .before .before .before .least in
-    let place-of = c .before .before .before .before .before .before .before .place-of in
-    let print-case = c .before .before .print-case in
-    let e : least .result ≡ min (next-line2 .result .next) (length (start .args .s .now)) = least .ensures in (
-      omega (arith, place-of .ensures .0, next-line .ensures .next, next-line2 .ensures .next, start .pre),
-      place-of .ensures .1,
-      fill-from .ensures ∙ ap length (next-line .ensures .bytes) ∙ length-over _ _,
-      print-case .ensures,
+    let at-print-case = c .before .before in
+    let at-place-of = at-print-case .before .before .before .before .before in
+    let at-least = at-place-of .before in
+    let at-fill-from = at-least .before .before .before in
+    let e : at-least .least .result ≡ min (next-line2 .result .next) (length (start .args .s .now)) = at-least .least .ensures in (
+      omega (arith, at-place-of .place-of .ensures .0, next-line .ensures .next, next-line2 .ensures .next, start .pre),
+      at-place-of .place-of .ensures .1,
+      at-fill-from .fill-from .ensures ∙ ap length (next-line .ensures .bytes) ∙ length-over _ _,
+      at-print-case .print-case .ensures,
     )
 
 pub run-case-spec : {M : Type 1} → statement M

@@ -141,7 +141,8 @@ module _ (t : ℕ) where
   vector : (c : At-behind) (s : Sheet) (h : Asked (start-of (child-place (totals-place c))) s) → let at-totals = totals-place c in
       let at-child = child-place at-totals in
       let a = start-of at-child .args in
-      SuffixCosts s (c .suffix-costs .last .1 .1 .0) (partsAt s (a .l) (unitsOf (end-of at-child)) (drop (at-child .before .before .loop .j + 1)
+      SuffixCosts s (c .suffix-costs .last .1 .1 .0)
+      (partsAt s (a .l) (unitsOf (end-of at-child)) (drop (at-child .before .before .loop .j + 1)
       (h .parts .divides .parts))) (at-totals .totals .result) (a .v) (c .suffix-costs .result)
   vector c s h = c .suffix-costs .ensures s (suffix-costs-entry (totals-place c) s h)
 
@@ -151,7 +152,8 @@ module _ (t : ℕ) where
       let a = start-of at-child .args in
       let loop = at-child .before .before .loop in
       BuildPre s (a .plan .now) (a .units .now) (c .suffix-costs .last .1 .1 .0) (loop .tree) (a .bar) (at-child .child .result) (a .l)
-      (unitsOf (loop .lo)) (loop .at) (loop .carry) (at-totals .before .before .before .cells .result) (c .suffix-costs .result) (loop .next)
+      (unitsOf (loop .lo)) (loop .at) (loop .carry) (at-totals .before .before .before .cells .result) (c .suffix-costs .result)
+      (loop .next)
   build-entry c s h =
       let at-totals = totals-place c in
       let at-child = child-place at-totals in

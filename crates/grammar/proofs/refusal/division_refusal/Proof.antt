@@ -44,43 +44,63 @@ all-below-requires c κs = search needs
 returns-6 : tie.Need-returns-6
 unfolding divisionRefusal
 returns-6 c =
-    let if1 = c .before .before .before .before .before .before .before .before .before .if1 in
-    let if2 = c .before .before .before .before .before .before .if2 in
-    let if3 = c .before .before .before .before .before .if3 in
-    let if4 = c .before .before .before .before .if4 in
-    let if5 = c .before .before .before .if5 in
-    let all-below = c .before .before .all-below in
-    search (demands, pass-below, sym (all-below .ensures) ∙ c .before .if6 .taken, c .if7 .taken, if5 .left, if4 .left, if3 .left, if2 .left, if1 .left) depth 10
+    let at-all-below = c .before .before in
+    let at-if5 = at-all-below .before in
+    let at-if4 = at-if5 .before in
+    let at-if3 = at-if4 .before in
+    let at-if2 = at-if3 .before in
+    let at-if1 = at-if2 .before .before .before in
+    search (
+      demands,
+      pass-below,
+      sym (at-all-below .all-below .ensures) ∙ c .before .if6 .taken,
+      c .if7 .taken,
+      at-if5 .if5 .left,
+      at-if4 .if4 .left,
+      at-if3 .if3 .left,
+      at-if2 .if2 .left,
+      at-if1 .if1 .left,
+    ) depth 10
 
 returns-7 : tie.Need-returns-7
 unfolding divisionRefusal
 returns-7 c =
-    let if1 = c .before .before .before .before .before .before .before .before .before .if1 in
-    let if2 = c .before .before .before .before .before .before .if2 in
-    let if3 = c .before .before .before .before .before .if3 in
-    let if4 = c .before .before .before .before .if4 in
-    let if5 = c .before .before .before .if5 in
-    let all-below = c .before .before .all-below in
-    search (demands, pass-below, sym (all-below .ensures) ∙ c .before .if6 .taken, c .if7 .left, if5 .left, if4 .left, if3 .left, if2 .left, if1 .left) depth 10
+    let at-all-below = c .before .before in
+    let at-if5 = at-all-below .before in
+    let at-if4 = at-if5 .before in
+    let at-if3 = at-if4 .before in
+    let at-if2 = at-if3 .before in
+    let at-if1 = at-if2 .before .before .before in
+    search (
+      demands,
+      pass-below,
+      sym (at-all-below .all-below .ensures) ∙ c .before .if6 .taken,
+      c .if7 .left,
+      at-if5 .if5 .left,
+      at-if4 .if4 .left,
+      at-if3 .if3 .left,
+      at-if2 .if2 .left,
+      at-if1 .if1 .left,
+    ) depth 10
 
 returns-8 : tie.Need-returns-8
 unfolding divisionRefusal
 returns-8 c =
-    let if1 = c .before .before .before .before .before .before .before .before .if1 in
-    let if2 = c .before .before .before .before .before .if2 in
-    let if3 = c .before .before .before .before .if3 in
-    let if4 = c .before .before .before .if4 in
-    let if5 = c .before .before .if5 in
+    let at-if5 = c .before .before in
+    let at-if4 = at-if5 .before in
+    let at-if3 = at-if4 .before in
+    let at-if2 = at-if3 .before in
+    let at-if1 = at-if2 .before .before .before in
     search (
       demands,
       fail-below,
       sym (c .before .all-below .ensures)
           ∙ c .if6 .left,
-      if5 .left,
-      if4 .left,
-      if3 .left,
-      if2 .left,
-      if1 .left,
+      at-if5 .if5 .left,
+      at-if4 .if4 .left,
+      at-if3 .if3 .left,
+      at-if2 .if2 .left,
+      at-if1 .if1 .left,
     ) depth 10
 
 pub division-refusal-spec : {M : Type 1} → statement M

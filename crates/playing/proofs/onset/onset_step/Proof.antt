@@ -1,5 +1,5 @@
--- `onset_step` meets its contract: form, moment and room are asked one after the other, and the count of the last bar with any onset is enough
--- for the room in a bar. Assumes nothing.
+-- `onset_step` meets its contract: form, moment and room are asked one after the other, and the count of the last bar with any onset is
+-- enough for the room in a bar. Assumes nothing.
 use borrow.Author.Needs.{needs}
 use native.Mathlib.Omega.{arith}
 use native.Mathlib.Nat.{lt-of-lt-of-le, mul-le-mul-right}
@@ -19,7 +19,9 @@ use Rattle.playing.proofs.onset.onset_step.Tie as tie
 
 -- where the room has been asked for: the call, and its line, timing and unit
 abbrev start-of : tie.After-room-refusal → tie.Start
-start-of c = c .before .before .before .before .before .before .before .before .before .before .before
+start-of c =
+    let at-form = c .before .before .before .before .before .before .before .before in
+    at-form .before .before .before
 
 abbrev line-of : tie.After-room-refusal → Line
 line-of c = start-of c .args .t5
@@ -40,7 +42,8 @@ module _ (c : tie.After-room-refusal) (g : Grammar) (p : Playing) (last : ℕ) (
   here =
       let at-unit = c .before .before .before in
       let at-moment = at-unit .before .before in
-      here-is g (timing-of c) p last (line-of c) good (start-of c .args .bars) (start-of c .args .count) (start-of c .args .latest) eb en es _ _ _
+      here-is g (timing-of c) p last (line-of c) good (start-of c .args .bars) (start-of c .args .count) (start-of c .args .latest) eb en
+      es _ _ _
       (at-moment .before .four-at .ensures) (sym (at-moment .moment-refusal .ensures) ∙ at-unit .before .if3 .left)
       (at-unit .unit-of .ensures .0) (c .before .run-in .ensures)
 
@@ -49,7 +52,8 @@ module _ (c : tie.After-room-refusal) (g : Grammar) (p : Playing) (last : ℕ) (
   decided =
       let at-moment = c .before .before .before .before .before in
       let at-form = at-moment .before .before .before in
-      by-room g (timing-of c) p last (line-of c) (at-form .before .if1 .left) (sym (at-form .form-refusal .ensures) ∙ at-moment .before .before .if2 .left)
+      by-room g (timing-of c) p last (line-of c) (at-form .before .if1 .left)
+      (sym (at-form .form-refusal .ensures) ∙ at-moment .before .before .if2 .left)
       (sym (moment-is g (timing-of c) p last (line-of c) good _ _ _ eb en es _ (at-moment .before .four-at .ensures))
       ∙ sym (at-moment .moment-refusal .ensures) ∙ c .before .before .before .before .if3 .left)
       ∙ sym (c .room-refusal .ensures ∙ (λ j. roomRefusal (en j) (here j)))
@@ -108,13 +112,15 @@ returns-3 c g p last good eb en es =
     let moment = at-moment .moment-refusal .ensures ∙ moment-is g _ p last l good _ _ _ eb en es _ (at-four .four-at .ensures) in
     let f = at-if3 .if3 .taken in
     stopped g _ p last l (c .refused-step3 .result) _ (c .refused-step3 .ensures)
-    (by-moment g _ p last l (at-if1 .if1 .left) (sym (at-form .form-refusal .ensures) ∙ at-if2 .if2 .left) (λ z. f (moment ∙ z)) ∙ sym moment) f
+    (by-moment g _ p last l (at-if1 .if1 .left) (sym (at-form .form-refusal .ensures) ∙ at-if2 .if2 .left) (λ z. f (moment ∙ z)) ∙ sym
+    moment) f
 
 unit-of-requires : tie.Need-unit-of-requires
 unit-of-requires c κs =
     let at-moment = c .before in
     let at-start = at-moment .before .before .before .before .before .before in
-    let within = moment-passed (at-start .args .bars) (timingIn (at-start .args .timing)) _ _ (sym (at-moment .moment-refusal .ensures) ∙ c .if3 .left) in
+    let within = moment-passed (at-start .args .bars) (timingIn (at-start .args .timing)) _ _
+    (sym (at-moment .moment-refusal .ensures) ∙ c .if3 .left) in
     lt-of-lt-of-le (within .1) (mul-le-mul-right (at-start .args .timing .duration .0) (at-start .pre))
 
 run-in-requires : tie.Need-run-in-requires

@@ -1,4 +1,5 @@
--- `read_forest`: the invariant of the loop is that the first `j` intervals are read (`InRow`), and that `left` is the left bound of the next.
+-- `read_forest`: the invariant of the loop is that the first `j` intervals are read (`InRow`), and that `left` is the left bound of the
+-- next.
 use Prim.Native.Nat.{ℕ, _+_, _-_, _*_, _≤_}
 use mathlib.Core.Path.{_≡_}
 use native.Mathlib.Omega.{arith}
@@ -29,7 +30,8 @@ module _ (t : ℕ) where
   pub loop-holds : read-forest-lts.Need-loop-holds calls (read-forest-at t) read-forest.Post Inv-loop μ-loop
   loop-holds c = (omega arith, omega arith, λ s h. row-none h)
 
-  pub shared-slice-read-read-tree : read-forest-lts.Need-shared-slice-read-read-tree calls (read-forest-at t) read-forest.Post Inv-loop μ-loop
+  pub shared-slice-read-read-tree :
+      read-forest-lts.Need-shared-slice-read-read-tree calls (read-forest-at t) read-forest.Post Inv-loop μ-loop
   shared-slice-read-read-tree c = search needs
 
   -- an interval's measure is one less

@@ -34,20 +34,20 @@ cast-put-field-2 c = search needs
 
 put-field-requires-2 : tie.Need-put-field-requires-2
 put-field-requires-2 c κs =
-    let start = c .before .before .before .before .before .before .before .before in
-    let put-field = c .before .before .before .before .put-field in
-    let z = kind-size (start .args .line .now) (start .pre .1) in
-    let x = put-size _ _ _ _ (put-field .ensures) z in
+    let at-put-field = c .before .before .before .before in
+    let at-start = at-put-field .before .before .before .before in
+    let z = kind-size (at-start .args .line .now) (at-start .pre .1) in
+    let x = put-size _ _ _ _ (at-put-field .put-field .ensures) z in
     omega arith
 
 slice-write-line-2 : tie.Need-slice-write-line-2
 slice-write-line-2 c =
-    let start = c .before .before .before .before .before .before .before .before .before .before .before in
-    let put-field = c .before .before .before .before .before .before .before .put-field in
-    let put-field2 = c .before .before .put-field2 in
-    let z = kind-size (start .args .line .now) (start .pre .1) in
-    let x = put-size _ _ _ _ (put-field .ensures) z in
-    let y = put-size _ _ _ _ (put-field2 .ensures) x in
+    let at-put-field2 = c .before .before in
+    let at-put-field = at-put-field2 .before .before .before .before .before in
+    let at-start = at-put-field .before .before .before .before in
+    let z = kind-size (at-start .args .line .now) (at-start .pre .1) in
+    let x = put-size _ _ _ _ (at-put-field .put-field .ensures) z in
+    let y = put-size _ _ _ _ (at-put-field2 .put-field2 .ensures) x in
     omega arith
 
 cast-line : tie.Need-cast-line
@@ -55,31 +55,33 @@ cast-line c = search needs
 
 slice-write-line-3 : tie.Need-slice-write-line-3
 slice-write-line-3 c =
-    let start = c .before .before .before .before .before .before .before .before .before .before .before in
-    let put-field = c .before .before .before .before .before .before .before .put-field in
-    let put-field2 = c .before .before .put-field2 in
-    let z = kind-size (start .args .line .now) (start .pre .1) in
-    let x = put-size _ _ _ _ (put-field .ensures) z in
-    let y = put-size _ _ _ _ (put-field2 .ensures) x in
-    omega (arith, length-set (put-field2 .last .0) 7 (start .args .n))
+    let at-put-field2 = c .before .before in
+    let at-put-field = at-put-field2 .before .before .before .before .before in
+    let at-start = at-put-field .before .before .before .before in
+    let z = kind-size (at-start .args .line .now) (at-start .pre .1) in
+    let x = put-size _ _ _ _ (at-put-field .put-field .ensures) z in
+    let y = put-size _ _ _ _ (at-put-field2 .put-field2 .ensures) x in
+    omega (arith, length-set (at-put-field2 .put-field2 .last .0) 7 (at-start .args .n))
 
 same-length : tie.Need-same-length
 same-length c =
-    let start = c .before .before .before .before .before .before .before .before .before .before .before in
-    let put-field = c .before .before .before .before .before .before .before .put-field in
-    let put-field2 = c .before .before .put-field2 in
-    let z = kind-size (start .args .line .now) (start .pre .1) in
-    let x = put-size _ _ _ _ (put-field .ensures) z in
-    let y = put-size _ _ _ _ (put-field2 .ensures) x in
-    length-set (set (put-field2 .last .0) 7 (start .args .n)) 8 (start .args .placed) ∙ length-set (put-field2 .last .0) 7
-    (start .args .n) ∙ y ∙ sym (ap length (start .pre .1))
+    let at-put-field2 = c .before .before in
+    let at-put-field = at-put-field2 .before .before .before .before .before in
+    let at-start = at-put-field .before .before .before .before in
+    let z = kind-size (at-start .args .line .now) (at-start .pre .1) in
+    let x = put-size _ _ _ _ (at-put-field .put-field .ensures) z in
+    let y = put-size _ _ _ _ (at-put-field2 .put-field2 .ensures) x in
+    length-set (set (at-put-field2 .put-field2 .last .0) 7 (at-start .args .n)) 8 (at-start .args .placed) ∙ length-set
+    (at-put-field2 .put-field2 .last .0) 7
+    (at-start .args .n) ∙ y ∙ sym (ap length (at-start .pre .1))
 
 returns : tie.Need-returns
 returns c =
-    let start = c .before .before .before .before .before .before .before .before .before .before .before in
-    let put-field = c .before .before .before .before .before .before .before .put-field in
-    let put-field2 = c .before .before .put-field2 in
-    front-made _ _ _ _ (start .args .line .now) _ _ (start .pre .1) (put-field .ensures) (put-field2 .ensures)
+    let at-put-field2 = c .before .before in
+    let at-put-field = at-put-field2 .before .before .before .before .before in
+    let at-start = at-put-field .before .before .before .before in
+    front-made _ _ _ _ (at-start .args .line .now) _ _ (at-start .pre .1) (at-put-field .put-field .ensures)
+    (at-put-field2 .put-field2 .ensures)
 
 pub leaf-front-spec : {M : Type 1} → statement M
 leaf-front-spec =

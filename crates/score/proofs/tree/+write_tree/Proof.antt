@@ -17,7 +17,7 @@ use borrow.Fn.PlainCycle.{Measures, is, falls, and}
 use Rattle.score.proofs.tree.write_tree.Reads as write-tree
 use Rattle.score.proofs.tree.write_tree.Kinds as write-tree-kinds
 use Rattle.score.proofs.tree.+write_tree.Lts-write_tree as write-tree-lts
-use Rattle.expansions.proofs.packed.rule_at.Reads as rule-at-reads
+use Rattle.expansions.proofs.rule_at.Reads as rule-at-reads
 use Rattle.score.proofs.tree.write_leaf.Reads as write-leaf-reads
 use Rattle.score.proofs.tree.+write_tree.{statement}
 use Rattle.score.proofs.tree.+write_tree.Tie.{close}
@@ -99,9 +99,11 @@ module _ (t : ℕ) where
   write-tree-write-tree-requires c κs =
       let loop-test = c .before .loop-test in
       let loop = c .before .before .loop in
-      let rule2 = c .before .before .before .before .before .rule2 in
-      let rule-at = c .before .before .before .before .before .before .before .rule-at in
-      let start = c .before .before .before .before .before .before .before .before .before .before .before in
+      let at-rule2 = c .before .before .before .before .before in
+      let rule2 = at-rule2 .rule2 in
+      let at-rule = at-rule2 .before .before in
+      let rule-at = at-rule .rule-at in
+      let start = at-rule .before .before .before .before in
       let h = start .pre .1 .3 in
       let d = division-here h _ _ _ _ (rule-at .ensures) (rule2 .given .1) in
       let g = parts-entry h (d .1) (d .2) in
@@ -114,10 +116,11 @@ module _ (t : ℕ) where
   write-tree-add-left c =
       let loop-test = c .before .before .before .before .loop-test in
       let loop = c .before .before .before .before .before .loop in
-      let rule2 = c .before .before .before .before .before .before .before .before .rule2 in
-      let rule-at = c .before .before .before .before .before .before .before .before .before .before .rule-at in
-      let further = c .before .before .before .before .before .before .before .before in
-      let start = further .before .before .before .before .before .before in
+      let at-rule2 = c .before .before .before .before .before .before .before .before in
+      let rule2 = at-rule2 .rule2 in
+      let at-rule = at-rule2 .before .before in
+      let rule-at = at-rule .rule-at in
+      let start = at-rule .before .before .before .before in
       let h = start .pre .1 .3 in
       let d = division-here h _ _ _ _ (rule-at .ensures) (rule2 .given .1) in
       let g = parts-entry h (d .1) (d .2) in

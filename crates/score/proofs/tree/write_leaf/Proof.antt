@@ -39,40 +39,40 @@ leaf-line-requires c κs =
 
 array-share-prefix-line : tie.Need-array-share-prefix-line
 array-share-prefix-line c =
-    let start = c .before .before .before .before .before .before .before in
-    let place = c .before .before .before .before .before .place in
-    let leaf-line = c .before .leaf-line in
-    let h = start .pre .1 in
-    let e = place .ensures _ (here h) in
-    count-within h _ e (leaf-line .ensures)
+    let at-leaf-line = c .before in
+    let at-place = at-leaf-line .before .before .before .before in
+    let at-start = at-place .before .before in
+    let h = at-start .pre .1 in
+    let e = at-place .place .ensures _ (here h) in
+    count-within h _ e (at-leaf-line .leaf-line .ensures)
 
 slice-aggregate-write-line : tie.Need-slice-aggregate-write-line
 slice-aggregate-write-line c =
-    let start = c .before .before .before .before .before .before .before .before in
-    let place = c .before .before .before .before .before .before .place in
-    let leaf-line = c .before .before .leaf-line in
-    let h = start .pre .1 in
-    let e = place .ensures _ (here h) in
-    count-is h _ e (leaf-line .ensures)
+    let at-leaf-line = c .before .before in
+    let at-place = at-leaf-line .before .before .before .before in
+    let at-start = at-place .before .before in
+    let h = at-start .pre .1 in
+    let e = at-place .place .ensures _ (here h) in
+    count-is h _ e (at-leaf-line .leaf-line .ensures)
 
 write-line-requires : tie.Need-write-line-requires
 write-line-requires c κs = search needs
 
 add-t15 : tie.Need-add-t15
 add-t15 c =
-    let start = c .before .before .before .before .before .before .before .before .before .before .before .before .before in
-    let place = c .before .before .before .before .before .before .before .before .before .before .before .place in
-    let h = start .pre .1 in
-    let e = place .ensures _ (here h) in
+    let at-place = c .before .before .before .before .before .before .before .before .before .before .before in
+    let at-start = at-place .before .before in
+    let h = at-start .pre .1 in
+    let e = at-place .place .ensures _ (here h) in
     let f = in-table h _ e in
     record { fits = omega arith }
 
 add-t16 : tie.Need-add-t16
 add-t16 c =
-    let start = c .before .before .before .before .before .before .before .before .before .before .before .before .before in
-    let place = c .before .before .before .before .before .before .before .before .before .before .before .place in
-    let h = start .pre .1 in
-    let e = place .ensures _ (here h) in
+    let at-place = c .before .before .before .before .before .before .before .before .before .before .before in
+    let at-start = at-place .before .before in
+    let h = at-start .pre .1 in
+    let e = at-place .place .ensures _ (here h) in
     let f = in-table h _ e in
     record { fits = omega arith }
 
@@ -81,10 +81,11 @@ same-length c = search needs
 
 returns : tie.Need-returns
 returns c =
-    let place = c .before .before .before .before .before .before .before .before .before .before .before .place in
-    let leaf-line = c .before .before .before .before .before .before .before .leaf-line in
-    let write-line = c .before .before .before .write-line in
-    λ s h. leaf-written h _ (place .ensures s (here h)) (leaf-line .ensures) _ _ (write-line .ensures)
+    let at-write-line = c .before .before .before in
+    let at-leaf-line = at-write-line .before .before .before .before in
+    let at-place = at-leaf-line .before .before .before .before in
+    λ s h. leaf-written h _ (at-place .place .ensures s (here h)) (at-leaf-line .leaf-line .ensures) _ _
+    (at-write-line .write-line .ensures)
 
 pub write-leaf-spec : {M : Type 1} → statement M
 write-leaf-spec =

@@ -41,7 +41,8 @@ Least c m d =
 
 zeroth : (c : tie.After-dot) (s : Sheet) (e : ℕ) → Asked (start-of c) s e → Least (start-of c) 0 (c .dot .result)
 zeroth c s e h =
-    suffix-step-cell h 0 (omega arith) (16 * start-of c .args .b) (omega arith) (c .before .before .load .ensures) (c .before .totals .ensures)
+    suffix-step-cell h 0 (omega arith) (16 * start-of c .args .b) (omega arith) (c .before .before .load .ensures)
+    (c .before .totals .ensures)
     (c .dot .ensures)
 
 first : (c : tie.After-dot2) (s : Sheet) (e : ℕ) → Asked (start-of (first-place c)) s e
@@ -77,7 +78,8 @@ dot-requires : tie.Need-dot-requires
 dot-requires c κs =
     let at-load = c .before in
     let at-start = at-load .before .before in
-    suffix-step-asked (at-start .pre .2) 0 (omega arith) (16 * at-start .args .b) (omega arith) (at-load .load .ensures) (c .totals .ensures)
+    suffix-step-asked (at-start .pre .2) 0 (omega arith) (16 * at-start .args .b) (omega arith) (at-load .load .ensures)
+    (c .totals .ensures)
 
 add-load : tie.Need-add-load
 add-load c = search needs
