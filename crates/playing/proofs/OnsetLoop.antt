@@ -149,6 +149,11 @@ module _ {t : List ℕ} {at n bars : ℕ} {timing : Timing} {table : PlayingTabl
     onsets-done f = ended ∙ end-with g timing p (h .last) n′ (λ e. f (h .count ∙ e))
 
 -- what is returned where a line is refused, or none is left
-pub take-refused : {o : Outcome TimedSheet} {g : Grammar} (r : Take) → (r .number ≡ 0 → ⊥) → o ≡ refused (r .number) (r .line)
+pub take-refused : {o : Outcome TimedSheet} {g : Grammar} {number line : ℕ} (r : Take) → r .number ≡ number → r .line ≡ line
+    → (number ≡ 0 → ⊥) → o ≡ refused number line
     → TakeRead o g r
-take-refused r f e = record { stopped = λ _. e; done = λ z. absurd (f z) }
+take-refused r n l f e =
+    record {
+      stopped = λ _. e ∙ (λ j. refused (sym n j) (sym l j));
+      done = λ z. absurd (f (sym n ∙ z));
+    }

@@ -44,6 +44,20 @@ pub fn no_onsets(bars: u8) -> PlayingTable
     }
 }
 
+// A refusal at line `line`. Its timing and playing mean nothing.
+fn refused_take(number: u8, line: usize) -> Take
+    ensures { λ r. ⌜ (r .number ≡ number) × (r .line ≡ line) ⌝ }
+{
+    Take {
+        number,
+        line,
+        timing: TimingTable {
+            duration: Micros(0),
+        },
+        playing: no_onsets(0),
+    }
+}
+
 // The refusal of a `45` line; 0: none.
 fn playing_refusal(l: Line) -> u8
     ensures { λ r. ⌜ r ≡ playingRefusal l ⌝ }
@@ -88,12 +102,7 @@ fn read_onsets(text: &[u8], at: usize, line: usize, bars: u8, timing: TimingTabl
         let step = onset_step(bars, timing, n, latest, l);
         let number = step.number;
         if number != 0 {
-            return Take {
-                number,
-                line,
-                timing,
-                playing,
-            };
+            return refused_take(number, line);
         }
         let u = step.unit;
         playing.units[n] = u;
@@ -106,12 +115,7 @@ fn read_onsets(text: &[u8], at: usize, line: usize, bars: u8, timing: TimingTabl
         line += 1;
     }
     if n == 0 {
-        return Take {
-            number: 3,
-            line,
-            timing,
-            playing,
-        };
+        return refused_take(3, line);
     }
     Take {
         number: 0,
@@ -133,12 +137,7 @@ pub fn read_playing(text: &[u8], at: usize, line: usize) -> Take
     };
     let number = playing_refusal(l);
     if number != 0 {
-        return Take {
-            number,
-            line,
-            timing,
-            playing: no_onsets(0),
-        };
+        return refused_take(number, line);
     }
     read_onsets(text, taken.next, line + 1, l.bytes[1], timing)
 }

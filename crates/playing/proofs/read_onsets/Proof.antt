@@ -45,13 +45,17 @@ onset-step-requires c κs =
     let loop = c .before .before .before .loop in
     let h = loop .inv in le-trans (le-of-eq (h .bars-are)) (h .good .onsets .sixty-four)
 
+refused-take-requires : tie.Need-refused-take-requires Inv-loop μ-loop
+refused-take-requires c κs = search needs
+
 returns : tie.Need-returns Inv-loop μ-loop
 returns c g =
-    let loop = c .before .before .before .before .before .loop in
-    let line-at = c .before .before .before .line-at in
-    take-refused _ (c .if1 .taken)
-    (onsets-stop (loop .inv) (search needs) _ (line-at .ensures .line) (c .before .onset-step .result) (c .before .onset-step .ensures) g
-    (c .if1 .taken))
+    let at-if1 = c .before in
+    let loop = at-if1 .before .before .before .before .before .loop in
+    let line-at = at-if1 .before .before .before .line-at in
+    let onset-step = at-if1 .before .onset-step in
+    take-refused _ (c .refused-take .ensures .0) (c .refused-take .ensures .1) (at-if1 .if1 .taken)
+    (onsets-stop (loop .inv) (search needs) _ (line-at .ensures .line) (onset-step .result) (onset-step .ensures) g (at-if1 .if1 .taken))
 
 mul-u : tie.Need-mul-u Inv-loop μ-loop
 mul-u c = let m = room (c .before) in search needs
@@ -88,10 +92,15 @@ loop-again c =
     onsets-more (loop .inv) (search needs) _ (line-at .ensures .line) (onset-step .result) (onset-step .ensures) (if1 .left) _ refl in
     rw (line-at .ensures .next) more
 
+refused-take-requires-2 : tie.Need-refused-take-requires-2 Inv-loop μ-loop
+refused-take-requires-2 c κs = search needs
+
 returns-2 : tie.Need-returns-2 Inv-loop μ-loop
 returns-2 c g =
-    let loop = c .before .before .loop in
-    take-refused _ (λ z. omega arith) (onsets-missing (loop .inv) (search needs) g (c .if2 .taken))
+    let at-if2 = c .before in
+    let loop = at-if2 .before .before .loop in
+    take-refused _ (c .refused-take2 .ensures .0) (c .refused-take2 .ensures .1) (λ z. omega arith)
+    (onsets-missing (loop .inv) (search needs) g (at-if2 .if2 .taken))
 
 returns-3 : tie.Need-returns-3 Inv-loop μ-loop
 unfolding timingTable
@@ -120,6 +129,7 @@ read-onsets-spec =
     loop-holds
     line-at-requires
     onset-step-requires
+    refused-take-requires
     returns
     mul-u
     element-set-from-u
@@ -129,5 +139,6 @@ read-onsets-spec =
     add-line
     loop-less
     loop-again
+    refused-take-requires-2
     returns-2
     returns-3)

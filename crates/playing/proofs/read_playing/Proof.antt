@@ -19,8 +19,8 @@ four-at-requires c κs = search needs
 playing-refusal-requires : tie.Need-playing-refusal-requires
 playing-refusal-requires c κs = search needs
 
-no-onsets-requires : tie.Need-no-onsets-requires
-no-onsets-requires c κs = search needs
+refused-take-requires : tie.Need-refused-take-requires
+refused-take-requires c κs = search needs
 
 -- the `45` line is refused
 returns : tie.Need-returns
@@ -29,7 +29,7 @@ returns c g good some kind =
     let at-refusal = at-if1 .before in
     let at-line = at-refusal .before .before .before in
     let at-start = at-line .before .before in
-    take-refused _ (at-if1 .if1 .taken)
+    take-refused _ (c .refused-take .ensures .0) (c .refused-take .ensures .1) (at-if1 .if1 .taken)
     (head-refused (at-start .args .text .now) (at-start .args .at) (at-start .args .line) (at-start .pre .0) g some kind _
     (at-line .line-at .ensures .line)
     _ (at-refusal .playing-refusal .ensures) (at-if1 .if1 .taken))
@@ -74,7 +74,7 @@ read-playing-spec =
     line-at-requires
     four-at-requires
     playing-refusal-requires
-    no-onsets-requires
+    refused-take-requires
     returns
     add-read-onsets
     element-copy-out-read-onsets

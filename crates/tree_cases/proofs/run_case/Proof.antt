@@ -25,11 +25,11 @@ least-requires c κs = search needs
 
 place-of-requires : tie.Need-place-of-requires
 place-of-requires c κs =
-    let start = c .before .before .before .before .before .before .before .before .before .before .before .before .before .before .before
-    in
-    let next-line2 = c .before .before .before .before .before .before .next-line2 in
-    let least = c .least in
-    let e : least .result ≡ min (next-line2 .result .next) (length (start .args .s .now)) = least .ensures in
+    let at-fill-from = c .before .before .before in
+    let at-next-line2 = at-fill-from .before .before .before in
+    let at-next-line = at-next-line2 .before .before .before .before in
+    let start = at-next-line .before .before .before .before .before in
+    let e : c .least .result ≡ min (at-next-line2 .next-line2 .result .next) (length (start .args .s .now)) = c .least .ensures in
     omega arith
 
 sub-print-case : tie.Need-sub-print-case
@@ -55,16 +55,15 @@ same-length-2 c = search needs
 
 returns : tie.Need-returns
 returns c =
-    let start = c .before .before .before .before .before .before .before .before .before .before .before .before .before .before .before
-    .before .before .before .before .before .before .before .before in
-    let next-line = c .before .before .before .before .before .before .before .before .before .before .before .before .before .before
-    .before .before .before .before .next-line in
-    let next-line2 = c .before .before .before .before .before .before .before .before .before .before .before .before .before .before
-    .next-line2 in
     let at-print-case = c .before .before in
     let at-place-of = at-print-case .before .before .before .before .before in
     let at-least = at-place-of .before in
     let at-fill-from = at-least .before .before .before in
+    let at-next-line2 = at-fill-from .before .before .before in
+    let at-next-line = at-next-line2 .before .before .before .before in
+    let start = at-next-line .before .before .before .before .before in
+    let next-line = at-next-line .next-line in
+    let next-line2 = at-next-line2 .next-line2 in
     let e : at-least .least .result ≡ min (next-line2 .result .next) (length (start .args .s .now)) = at-least .least .ensures in (
       omega (arith, at-place-of .place-of .ensures .0, next-line .ensures .next, next-line2 .ensures .next, start .pre),
       at-place-of .place-of .ensures .1,

@@ -60,7 +60,9 @@ write-line-requires c κs = search needs
 
 add-t15 : tie.Need-add-t15
 add-t15 c =
-    let at-place = c .before .before .before .before .before .before .before .before .before .before .before in
+    let at-write-line = c .before .before .before in
+    let at-leaf-line = at-write-line .before .before .before .before in
+    let at-place = at-leaf-line .before .before .before .before in
     let at-start = at-place .before .before in
     let h = at-start .pre .1 in
     let e = at-place .place .ensures _ (here h) in
@@ -69,7 +71,9 @@ add-t15 c =
 
 add-t16 : tie.Need-add-t16
 add-t16 c =
-    let at-place = c .before .before .before .before .before .before .before .before .before .before .before in
+    let at-write-line = c .before .before .before in
+    let at-leaf-line = at-write-line .before .before .before .before in
+    let at-place = at-leaf-line .before .before .before .before in
     let at-start = at-place .before .before in
     let h = at-start .pre .1 in
     let e = at-place .place .ensures _ (here h) in
