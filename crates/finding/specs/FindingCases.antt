@@ -3,11 +3,11 @@
 -- whole.
 --
 -- What document 01's reviewer will try, and the theorem that refutes it:
--- 1. a finder that always says 11: `S-found` (its number is 0); for any sheet `FindingLaws.some-then-zero`;
+-- 1. a finder that always says 11: `Refuted.find-always-eleven`; for any sheet `FindingLaws.some-then-zero`;
 -- 2. the whole-bar leaf everywhere: `S-found` (the bytes are `010303`); for any sheet `FindingLaws.handed-back` (a valid tree, and least);
 -- 3. no bytes written and none reported: `S-found` (the node count is 3); for any sheet `FindingLaws.handed-back` with `no-bytes`;
 -- 4. an invented total: `FindingLaws.handed-back` (R, D and total are those of the bytes at the front of the tree slice);
--- 5. "no tree" before looking: `FindingLaws.eleven-then-none`;
+-- 5. "no tree" before looking: `Refuted.find-eleven-for-nine`; for any sheet `FindingLaws.eleven-then-none`;
 -- 6. a pricer that says 12 to everything: `says-12-to-everything` in pricing's `Cases`;
 -- 7. a result or a slice unspoken for: `Finding.Result` gives the answer and both slices in each case, and `all-answered` shows that
 --    nothing but the choice among least trees is open.

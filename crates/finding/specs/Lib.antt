@@ -6,3 +6,4 @@ pub mod FindLaws
 pub mod EveryReading
 pub mod Cases
 pub mod FindingCases
+pub mod Refuted

@@ -5,3 +5,4 @@ pub mod Writing
 pub mod WritingLaws
 pub mod Contracts
 pub mod Cases
+pub mod Refuted

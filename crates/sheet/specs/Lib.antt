@@ -15,3 +15,4 @@ pub mod Demands
 pub mod Buffer
 pub mod Literal
 pub mod Cases
+pub mod Refuted
