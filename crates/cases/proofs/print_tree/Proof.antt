@@ -47,7 +47,8 @@ write-all-requires c κs = search needs
 
 slice-aggregate-write-line : tie.Need-slice-aggregate-write-line
 slice-aggregate-write-line c =
-    let at-least = c .before .before .before .before .before .before .before .before .before in
+    let at-print = c .before .before .before in
+    let at-least = at-print .before .before .before .before .before .before in
     let at-start = at-least .before .before .before in
     sym (length-take-le (at-least .least .result) (at-start .args .tree .now) (omega (arith, at-least .least .ensures, at-start .pre)))
 

@@ -127,11 +127,16 @@ module _ (t : ℕ) where
   explore-place-behind-requires : explore-lts.Need-place-behind-requires calls (explore-at t) explore.Post explore-Inv-loop explore-μ-loop
   explore-place-behind-requires c κs = search needs
 
+  -- where the call began
+  abbrev start-of : explore-lts.At-loop calls (explore-at t) explore.Post explore-Inv-loop explore-μ-loop
+      → explore-lts.Start calls (explore-at t) explore.Post explore-Inv-loop explore-μ-loop
+  start-of c = let at-struct = c .before .before .before .before in at-struct .before .before .before .before .before
+
   explore-explore-requires : explore-lts.Need-explore-requires calls (explore-at t) explore.Post explore-Inv-loop explore-μ-loop
   explore-explore-requires c κs =
-      let start = c .before .before .before .before .before .before .before .before .before .before .before .before .before
-      .before .before .before .before in
-      let loop = c .before .before .before .before .before .before .before .before .loop in
+      let at-loop = c .before .before .before .before .before .before .before .before in
+      let start = start-of at-loop in
+      let loop = at-loop .loop in
       (omega (arith, start .pre .0, loop .inv .0, loop .inv .1, loop .inv .2, length-set (loop .list) (start .args .nodes) (loop .r)), tt)
 
   explore-loop-less : explore-lts.Need-loop-less calls (explore-at t) explore.Post explore-Inv-loop explore-μ-loop
@@ -139,10 +144,15 @@ module _ (t : ℕ) where
 
   explore-loop-again : explore-lts.Need-loop-again calls (explore-at t) explore.Post explore-Inv-loop explore-μ-loop
   explore-loop-again c =
-      let start = c .before .before .before .before .before .before .before .before .before .before .before .before .before
-      .before .before .before .before .before .before .before in
-      let loop = c .before .before .before .before .before .before .before .before .before .before .before .loop in (
-        omega (arith, c .before .before .explore .ensures, loop .inv .0, length-set (loop .list) (start .args .nodes) (loop .r)),
+      let at-place = c .before .before .before .before in
+      let at-loop = at-place .before .before .before .before .before .before .before in
+      let loop = at-loop .loop in (
+        omega (
+          arith,
+          c .before .before .explore .ensures,
+          loop .inv .0,
+          length-set (loop .list) (start-of at-loop .args .nodes) (loop .r),
+        ),
         loop .inv .1,
         loop .inv .2,
       )

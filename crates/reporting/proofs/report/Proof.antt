@@ -43,7 +43,8 @@ same-length-3 c = search needs
 returns : tie.Need-returns
 returns c =
     let at-restore = c .before .before in
-    let at-answered = at-restore .before .before .before .before .before .before .before .before .before in
+    let at-score = at-restore .before .before .before .before in
+    let at-answered = at-score .before .before .before .before .before in
     let copied = at-answered .before .before .before .before .before .before in
     let front = copied .before .before .before .front in
     reported (at-answered .compose .last .1 .1 .0) (front .ensures .0) (front .ensures .1) (front .ensures .2) (copied .copy .ensures)

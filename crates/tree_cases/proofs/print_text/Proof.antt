@@ -47,7 +47,9 @@ write-all-requires-3 c κs = search needs
 
 slice-aggregate-write-all-4 : tie.Need-slice-aggregate-write-all-4
 slice-aggregate-write-all-4 c =
-    let at-least = c .before .before .before .before .before .before .before .before .before .before .before .before in
+    let at-decimal2 = c .before .before .before in
+    let at-decimal = at-decimal2 .before .before .before .before in
+    let at-least = at-decimal .before .before .before .before .before in
     let at-start = at-least .before .before in
     sym (length-take-le (at-least .least .result) (at-start .args .score .now)
     (let e : at-least .least .result ≡ min (at-start .args .bytes)

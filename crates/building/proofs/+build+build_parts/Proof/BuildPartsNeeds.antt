@@ -136,7 +136,7 @@ module _ (t : ℕ) where
       part-behind h (at-loop .loop .inv .2 s h) (at-child .before .loop-test .taken) (at-loop .before .length .ensures)
       (at-loop .loop .inv .0) (at-child .child .ensures) (row c s h) (c .totals .ensures) (first-is c s h)
 
-  -- ---- where the suffix costs behind it is known
+  -- ---- where the suffix costs behind it are known
 
   vector : (c : At-behind) (s : Sheet) (h : Asked (start-of (child-place (totals-place c))) s) → let at-totals = totals-place c in
       let at-child = child-place at-totals in
@@ -246,6 +246,4 @@ module _ (t : ℕ) where
       ap length (at-loop .loop .inv .2 _ h .partway .written) ∙ length-over-from _ _ _
 
   pub returns : build-parts-lts.Need-returns calls (build-parts-at t) build-parts.Post Inv-loop μ-loop
-  returns c =
-      let loop = c .before .loop in
-      λ s h. in-parts-all h (loop .inv .2 s h) (omega (arith, c .loop-test .left, loop .inv .1))
+  returns c = λ s h. in-parts-all h (c .before .loop .inv .2 s h) (omega (arith, c .loop-test .left, c .before .loop .inv .1))
