@@ -3,7 +3,7 @@
 //! free, so a tree is held to its price, and only its total to the peer's.
 
 use crate::harness::{self, dirt, same, Difference, Outcomes};
-use crate::peer::{self, Sheet, BAR_UNITS};
+use crate::peer::{self, Sheet, BAR_UNITS, REST};
 use crate::search::Search;
 use crate::sheets::{Case, Dice};
 use crate::trees::{self, Price};
@@ -275,6 +275,10 @@ struct Features {
     chord: usize,
     crowded: usize,
     empty_bar: usize,
+    opens_with_rest: usize,
+    opens_with_silent_bar: usize,
+    rest_in_division: usize,
+    rest_over_late: usize,
     no_multiplier: usize,
     largest_multiplier: usize,
     dense: usize,
@@ -284,7 +288,8 @@ struct Features {
 
 impl Features {
     fn add(&mut self, sheet: &Sheet, list: &[u8]) {
-        let carried = carried(sheet, list);
+        let leaves = leaves(sheet, list);
+        let carried = carried(sheet, &leaves);
         let over_bar = |&&left: &&u32| left % BAR_UNITS == 0;
         let most = carried.iter().filter(over_bar).map(|left| {
             let same = carried.iter().filter(|&other| other == left);
@@ -303,7 +308,21 @@ impl Features {
         self.largest_multiplier += usize::from(sheet.multiplier == u16::MAX);
         self.dense += usize::from(is_dense(sheet));
         self.most_nodes = self.most_nodes.max(list.len());
+        self.add_rests(sheet, &leaves);
         self.add_rules(sheet, list);
+    }
+
+    fn add_rests(&mut self, sheet: &Sheet, leaves: &[Leaf]) {
+        let rests = leaves.iter().filter(|leaf| leaf.n == REST.into());
+        let rests: Vec<&Leaf> = rests.collect();
+        let late = |leaf: &&Leaf| {
+            let inside = leaf.left..leaf.left + leaf.length;
+            sheet.onsets.iter().any(|onset| inside.contains(&onset.0))
+        };
+        self.opens_with_rest += usize::from(leaves[0].n == REST.into());
+        self.opens_with_silent_bar += usize::from(sheet.onsets[0].0 >= BAR_UNITS);
+        self.rest_in_division += usize::from(rests.iter().any(|leaf| leaf.length < BAR_UNITS));
+        self.rest_over_late += usize::from(rests.iter().any(late));
     }
 
     fn add_rules(&mut self, sheet: &Sheet, list: &[u8]) {
@@ -330,6 +349,10 @@ impl Features {
             ("have onsets at one unit", self.chord),
             ("place three or more at a leaf", self.crowded),
             ("have an empty bar", self.empty_bar),
+            ("open with a rest", self.opens_with_rest),
+            ("open with a silent bar", self.opens_with_silent_bar),
+            ("have a rest as a division's part", self.rest_in_division),
+            ("have a rest with a late onset inside", self.rest_over_late),
             ("have multiplier 0", self.no_multiplier),
             ("have multiplier 65,535", self.largest_multiplier),
             ("have three divisions a head or more", self.dense),
@@ -357,17 +380,36 @@ fn is_dense(sheet: &Sheet) -> bool {
     divisions > 0 && 3 * heads <= divisions
 }
 
-/// The places of the onsets carried, taken from the score of a valid tree.
-fn carried(sheet: &Sheet, list: &[u8]) -> Vec<u32> {
+/// A leaf's line of a score, without its pitches.
+struct Leaf {
+    left: u32,
+    length: u32,
+    n: u32,
+    placed: u32,
+}
+
+/// The leaves of a valid tree, taken from its score.
+fn leaves(sheet: &Sheet, list: &[u8]) -> Vec<Leaf> {
     let text = trees::score(sheet, list).expect("the tree is valid");
     let text = String::from_utf8(text).expect("a score is digits");
     let field = |digits: &str| u32::from_str_radix(digits, 16).expect("a field is digits");
+    let leaf = |line: &str| Leaf {
+        left: field(&line[2..10]),
+        length: field(&line[10..14]),
+        n: field(&line[14..16]),
+        placed: field(&line[16..18]),
+    };
+    text.lines().skip(1).map(leaf).collect()
+}
+
+/// The places of the onsets carried.
+fn carried(sheet: &Sheet, leaves: &[Leaf]) -> Vec<u32> {
     let mut onsets = sheet.onsets.iter();
     let mut places = Vec::new();
-    for line in text.lines().skip(1) {
-        let (left, placed) = (field(&line[2..10]), field(&line[16..18]));
-        let early = onsets.by_ref().take(placed as usize);
-        places.extend(early.filter(|onset| onset.0 < left).map(|_| left));
+    for leaf in leaves {
+        let placed = onsets.by_ref().take(leaf.placed as usize);
+        let carried = placed.filter(|onset| onset.0 < leaf.left);
+        places.extend(carried.map(|_| leaf.left));
     }
     places
 }

@@ -1,8 +1,8 @@
 //! The least total by listing all trees of a sheet, and the tests that hold the
-//! peer's search to it. Written from document 01 without any table, so that it
-//! shares nothing with the search but the reading of the sheet.
+//! peer's search to it. Written from documents 01 and 02 without any table, so
+//! that it shares nothing with the search but the reading of the sheet.
 
-use crate::peer::{self, Rule, Sheet, BAR_UNITS};
+use crate::peer::{self, Rule, Sheet, BAR_UNITS, REST};
 use crate::search::Search;
 use crate::sheets::Dice;
 use crate::{takes, trees};
@@ -83,7 +83,10 @@ impl Listing<'_> {
                 }
             }
         }
+        let silent = self.sheet.onsets.iter().all(|onset| onset.0 >= left);
         let fits = match n {
+            0 => placed == 0 && !silent,
+            REST => placed == 0 && silent,
             3 => placed >= 3,
             _ => placed == usize::from(n),
         };
@@ -124,52 +127,73 @@ fn found(search: &mut Search, sheet: &Sheet) -> Option<(u64, Vec<u8>)> {
 }
 
 /// Holds the search to the price of its own tree and, where all trees can be
-/// listed, to the least; gives whether they were, and whether there is a tree.
-fn hold(search: &mut Search, text: &[u8], tries: usize) -> (bool, bool) {
+/// listed, to the least; gives whether they were, and whether a tree has a rest.
+fn hold(search: &mut Search, text: &[u8], tries: usize) -> (bool, Option<bool>) {
     let sheet = peer::read(text).expect("the sheet is accepted");
     let found = found(search, &sheet);
     if let Some((total, tree)) = &found {
         let price = trees::price(&sheet, tree).expect("the tree is valid");
         assert_eq!(price.total, *total);
     }
+    let rests = found.as_ref().map(|(_, tree)| has_rest(&sheet, tree));
     let total = found.map(|(total, _)| total);
     let listed = least_by_listing(&sheet, tries);
     if let Some(least) = listed {
         let text = String::from_utf8_lossy(text);
         assert_eq!(total, least, "{text}");
     }
-    (listed.is_some(), total.is_some())
+    (listed.is_some(), rests)
+}
+
+fn has_rest(sheet: &Sheet, tree: &[u8]) -> bool {
+    let mut rules = tree.iter().map(|&number| &sheet.rules[usize::from(number)]);
+    rules.any(|rule| matches!(rule, Rule::Leaf { n: REST, .. }))
 }
 
 #[test]
 fn least_of_all_trees() {
     let (mut dice, mut search) = (Dice::new(1), Search::default());
-    let (mut listed, mut with_tree) = (0, 0);
+    let (mut with_tree, mut with_rest, mut without) = (0, 0, 0);
     for _ in 0..30_000 {
         let text = takes::small(&mut dice);
-        let (all, tree) = hold(&mut search, &text, 20_000);
-        listed += usize::from(all);
-        with_tree += usize::from(all && tree);
+        match hold(&mut search, &text, 20_000) {
+            (false, _) => {}
+            (true, None) => without += 1,
+            (true, Some(rest)) => {
+                with_tree += 1;
+                with_rest += usize::from(rest);
+            }
+        }
     }
-    println!("listed all trees of {listed} sheets, {with_tree} of them with a tree");
-    assert!(with_tree > 5_000 && listed - with_tree > 5_000);
+    println!(
+        "listed all trees of {} sheets, {with_tree} of them with a tree, {with_rest} with a rest",
+        with_tree + without
+    );
+    assert!(with_tree > 5_000 && without > 5_000);
+    assert!(with_rest > 2_000 && with_tree - with_rest > 2_000);
 }
 
-/// Document 01's sheet S, its neighbours and what the paper says of them.
+/// Document 01's sheet S, its neighbours and what the papers say of them; and S
+/// with a rest added.
 #[test]
-fn sheets_of_the_document() {
+fn sheets_of_the_documents() {
     let s = peer::tests::S;
     let with = |from: usize, lines: &[&str]| [&s[..from], lines].concat().join("\n") + "\n";
-    let one = |time: u32| with(6, &[&format!("4E{time:08X}3E40")]);
+    let onset = |time: u32| format!("4E{time:08X}3E40");
+    let one = |time| with(6, &[&onset(time)]);
+    let with_rest = |time| with(5, &["4C01000204", s[5], &onset(time)]);
     let two_bars = ["4502001E8480", "4E000000003C40", "4E001E847F3E40"];
-    let cases: [(String, Option<(u64, &[u8])>); 7] = [
+    let cases: [(String, Option<(u64, &[u8])>); 10] = [
         (with(8, &[]), Some((1_088, &[1, 3, 3]))),
         (one(499_999), Some((5_049, &[0]))),
         (one(500_000), Some((5_050, &[0]))),
-        (one(999_999), Some((91, &[1, 2, 3]))),
-        (one(1_000_000), Some((90, &[1, 2, 3]))),
+        (one(999_999), Some((10_089, &[0]))),
+        (one(1_000_000), None),
         (with(5, &two_bars), Some((21, &[0, 0]))),
         (with(7, &[s[6]]), None),
+        (with_rest(500_000), Some((5_050, &[0]))),
+        (with_rest(999_999), Some((91, &[1, 4, 3]))),
+        (with_rest(1_000_000), Some((90, &[1, 4, 3]))),
     ];
     let mut search = Search::default();
     for (text, expected) in cases {

@@ -4,7 +4,7 @@
 //! trees for timing.
 
 use crate::peer::{self, Rule, Sheet, BAR_UNITS};
-use crate::sheets::{self, Dice, Outcome};
+use crate::sheets::{self, Dice, Outcome, REST};
 use crate::trees::NO_TREE;
 
 /// A text, a list and, where the way they were made settles it, the outcome
@@ -39,11 +39,11 @@ fn accepted(text: &[u8]) -> Sheet {
 
 /// Leaves of every n for each nonterminal, or nearly, and divisions.
 fn grammar(dice: &mut Dice) -> Vec<Vec<u8>> {
-    let nonterminals = dice.pick(&[1, 1, 2, 3, 5, 12]);
+    let nonterminals = dice.pick(&[1, 1, 2, 3, 5, 10]);
     let mut rules = Vec::new();
     let gaps = dice.one_in(6);
     for head in 0..nonterminals {
-        for n in 0..4 {
+        for n in 0..=REST {
             if !(gaps && dice.one_in(8)) {
                 rules.push(leaf_of(dice, head, n));
             }
@@ -72,10 +72,12 @@ pub fn leaf_of(dice: &mut Dice, head: usize, n: usize) -> Vec<u8> {
 }
 
 /// Leaves of every n and divisions of the given arities for each nonterminal.
+/// Rests stand last and are not thrown, so that the fixed sheets have the other
+/// lines that they had before there were rests.
 fn plain_grammar(dice: &mut Dice, nonterminals: usize, arities: &[usize]) -> Vec<Vec<u8>> {
     let mut lines = vec![sheets::grammar_head(dice, nonterminals)];
     for head in 0..nonterminals {
-        for n in 0..4 {
+        for n in 0..REST {
             lines.push(leaf_of(dice, head, n));
         }
         for &arity in arities {
@@ -84,6 +86,7 @@ fn plain_grammar(dice: &mut Dice, nonterminals: usize, arities: &[usize]) -> Vec
             lines.push(line);
         }
     }
+    lines.extend((0..nonterminals).map(|head| vec![0x4C, head as u8, 0, 1, REST as u8]));
     lines
 }
 
@@ -119,22 +122,40 @@ fn time_of(unit: usize, duration: usize) -> usize {
     time.min(bar_end - 1)
 }
 
-/// Units in order, at most 32 in a bar, now and then several at one place.
+/// Units in order, at most 32 in a bar, now and then several at one place. Often
+/// the first is at 0, else after some silence.
 pub fn units(dice: &mut Dice, bars: usize, count: usize) -> Vec<usize> {
+    let (silent, opening) = silence(dice, bars, count);
     let mut in_bar = vec![0; bars];
     let mut units = Vec::new();
     while units.len() < count {
-        let unit = near_a_bound(dice, bars);
+        let unit = silent * BAR_UNITS as usize + near_a_bound(dice, bars - silent);
         let chord = dice.pick(&[1, 1, 1, 1, 1, 2, 3, 4, 7]);
         let in_bar = &mut in_bar[unit / BAR_UNITS as usize];
         let room = (sheets::MAX_BAR_ONSETS - *in_bar).min(count - units.len());
-        for _ in 0..chord.min(room) {
-            *in_bar += 1;
-            units.push(unit);
-        }
+        let chord = if unit < opening { 0 } else { chord.min(room) };
+        *in_bar += chord;
+        units.extend(std::iter::repeat_n(unit, chord));
     }
     units.sort_unstable();
+    if opening == 0 && dice.one_in(2) {
+        units[0] = 0;
+    }
     units
+}
+
+/// The silence that a playing opens with at least: its whole bars, and the unit
+/// where it ends. Often none, else of bars, of a part of a bar or of both.
+fn silence(dice: &mut Dice, bars: usize, count: usize) -> (usize, usize) {
+    // The other bars keep room for twice the onsets.
+    let most = bars.saturating_sub(count.div_ceil(sheets::MAX_BAR_ONSETS / 2));
+    let silent = if dice.one_in(4) {
+        dice.between(0, most)
+    } else {
+        0
+    };
+    let eighths = if dice.one_in(3) { dice.below(8) } else { 0 };
+    (silent, (8 * silent + eighths) * BAR_UNITS as usize / 8)
 }
 
 /// A unit near a bound or the middle of a part that divisions can reach, since
@@ -183,9 +204,14 @@ enum Mistake {
     UnevenParts,
     OtherHead,
     ThreeIsTwo,
+    FourIsRest,
+    RestIsContinuation,
+    ContinuationIsRest,
+    SilenceByBar,
+    LateEndsSilence,
 }
 
-const MISTAKES: [(&str, Mistake); 9] = [
+const MISTAKES: [(&str, Mistake); 14] = [
     ("the middle is early", Mistake::MiddleIsEarly),
     ("any number may be late", Mistake::AnyNumberLate),
     ("a carry is inside", Mistake::CarryIsInside),
@@ -195,6 +221,11 @@ const MISTAKES: [(&str, Mistake); 9] = [
     ("uneven parts", Mistake::UnevenParts),
     ("other head", Mistake::OtherHead),
     ("three is two", Mistake::ThreeIsTwo),
+    ("four is a rest", Mistake::FourIsRest),
+    ("a rest is a continuation", Mistake::RestIsContinuation),
+    ("a continuation is a rest", Mistake::ContinuationIsRest),
+    ("silence is by bar", Mistake::SilenceByBar),
+    ("a late onset ends the silence", Mistake::LateEndsSilence),
 ];
 
 /// A tree being grown by trying rules in a random order. The intervals tried are
@@ -326,12 +357,30 @@ impl Growth<'_> {
         let few = late <= 3 || self.mistaken(Mistake::AnyNumberLate);
         let last = left + length == u32::from(self.sheet.bars) * BAR_UNITS;
         let kept = late == 0 || !last || self.mistaken(Mistake::CarriedOutOfLast);
-        let most = if self.mistaken(Mistake::ThreeIsTwo) {
-            2
-        } else {
-            3
-        };
-        few && kept && usize::from(n) == placed.min(most)
+        few && kept && usize::from(n) == self.n_of(left, placed, late)
+    }
+
+    fn n_of(&self, left: u32, placed: usize, late: usize) -> usize {
+        if placed == 0 && self.silent(left, late) {
+            return REST;
+        }
+        placed.min(match self.mistake {
+            Some(Mistake::ThreeIsTwo) => 2,
+            Some(Mistake::FourIsRest) => REST,
+            _ => 3,
+        })
+    }
+
+    /// Whether no onset lies before the left bound of a leaf with so many late.
+    fn silent(&self, left: u32, late: usize) -> bool {
+        let before = self.before(left);
+        match self.mistake {
+            Some(Mistake::RestIsContinuation) => false,
+            Some(Mistake::ContinuationIsRest) => true,
+            Some(Mistake::SilenceByBar) => before == self.before(left - left % BAR_UNITS),
+            Some(Mistake::LateEndsSilence) => before + late == 0,
+            _ => before == 0,
+        }
     }
 
     /// How many onsets lie before a unit.
@@ -346,6 +395,14 @@ fn head(rule: &Rule) -> u8 {
     }
 }
 
+/// The head of a rule that is a leaf of that n.
+fn leaf_head(sheet: &Sheet, number: u8, wanted: usize) -> Option<u8> {
+    match sheet.rules[usize::from(number)] {
+        Rule::Leaf { head, n, .. } if usize::from(n) == wanted => Some(head),
+        _ => None,
+    }
+}
+
 fn is_division(rule: &Rule) -> bool {
     matches!(rule, Rule::Division { .. })
 }
@@ -357,12 +414,14 @@ type Damage = (
     fn(&mut Dice, &Sheet, &mut Vec<u8>) -> Option<Outcome>,
 );
 
-const DAMAGES: [Damage; 14] = [
+const DAMAGES: [Damage; 16] = [
     ("byte changed", byte_changed),
     ("byte dropped", byte_dropped),
     ("byte added", byte_added),
     ("bytes swapped", bytes_swapped),
     ("other rule of the same head", other_rule_of_head),
+    ("rest made a continuation", rest_made_continuation),
+    ("continuation made a rest", continuation_made_rest),
     ("run of bytes dropped", run_dropped),
     ("cut", cut),
     ("more after the end", more_after_end),
@@ -409,6 +468,39 @@ fn other_rule_of_head(dice: &mut Dice, sheet: &Sheet, list: &mut Vec<u8>) -> Opt
         .collect();
     list[at] = dice.pick(&same_head) as u8;
     None
+}
+
+fn rest_made_continuation(dice: &mut Dice, sheet: &Sheet, list: &mut Vec<u8>) -> Option<Outcome> {
+    Some(leaf_exchanged(dice, sheet, list, (REST, 0)))
+}
+
+fn continuation_made_rest(dice: &mut Dice, sheet: &Sheet, list: &mut Vec<u8>) -> Option<Outcome> {
+    Some(leaf_exchanged(dice, sheet, list, (0, REST)))
+}
+
+/// Gives a leaf of some n another, if the tree and the rules have such. Only one n
+/// fits a leaf, so this is no tree then.
+fn leaf_exchanged(
+    dice: &mut Dice,
+    sheet: &Sheet,
+    list: &mut [u8],
+    (from, to): (usize, usize),
+) -> Outcome {
+    let mut exchanges = Vec::new();
+    for (at, &number) in list.iter().enumerate() {
+        let head = leaf_head(sheet, number, from);
+        for other in 0..sheet.rules.len() as u8 {
+            if head.is_some() && head == leaf_head(sheet, other, to) {
+                exchanges.push((at, other));
+            }
+        }
+    }
+    if exchanges.is_empty() {
+        return VALID;
+    }
+    let (at, other) = dice.pick(&exchanges);
+    list[at] = other;
+    REFUSED
 }
 
 /// Often drops whole parts, so that the rest is near to a tree.

@@ -1,5 +1,5 @@
-//! A second reading of the sheet, written from document 01 alone, so that the
-//! library's reading can be compared with it and timed against it.
+//! A second reading of the sheet, written from documents 01 and 02 alone, so that
+//! the library's reading can be compared with it and timed against it.
 //!
 //! `rustc --test bench/peer.rs` builds the tests at the end of this file.
 
@@ -14,6 +14,8 @@ const MAX_RULES: usize = 64;
 const MAX_ONSETS: usize = 512;
 const MAX_BAR_ONSETS: u8 = 32;
 const MAX_ARITY: usize = 8;
+/// The n of a leaf that is a rest, the largest there is.
+pub const REST: u8 = 4;
 /// 20,160 is 2^6 × 3^2 × 5 × 7 and so has 84 divisors.
 const BAR_DIVISORS: usize = 84;
 
@@ -337,7 +339,7 @@ fn division(line: &Line, nonterminals: u8) -> Result<Rule, Refusal> {
 fn leaf(line: &Line, nonterminals: u8) -> Result<Rule, Refusal> {
     line.refuse_if(line.count != 5, COUNT)?;
     let (head, n) = (line.one(1), line.one(4));
-    line.refuse_if(head >= nonterminals || n > 3, RANGE)?;
+    line.refuse_if(head >= nonterminals || n > REST, RANGE)?;
     Ok(Rule::Leaf {
         head,
         weight: line.two(2),
@@ -559,7 +561,8 @@ pub mod tests {
         }
         for rule in [
             "4C02000101",
-            "4C00000104",
+            "4C00000105",
+            "4C000001FF",
             "44020006020101",
             "44000006020201",
         ] {
@@ -576,6 +579,7 @@ pub mod tests {
         for onset in ["4E000000008040", "4E000000003C00", "4E000000003C80"] {
             assert_eq!(refusal(&s_with(7, onset)), (5, 7));
         }
+        assert!(read(&s_with(3, "4C00000104")).is_ok());
         assert!(read(&s_with(6, "4540001E8480")).is_ok());
         assert!(read(&s_with(6, "450103938700")).is_ok());
         assert!(read(&s_with(7, "4E000000007F7F")).is_ok());
@@ -611,7 +615,7 @@ pub mod tests {
     #[test]
     fn line_goes_before_number() {
         let mut lines = S;
-        (lines[3], lines[5]) = ("4C01000204", "5800");
+        (lines[3], lines[5]) = ("4C01000205", "5800");
         assert_eq!(refusal(&text(&lines)), (5, 4));
     }
 
@@ -627,7 +631,7 @@ pub mod tests {
     #[test]
     fn counts_come_last() {
         let mut rules = s_with_rules(65);
-        for (line, number) in [("4C000001", 4), ("4C00000104", 5), ("4C00000101", 8)] {
+        for (line, number) in [("4C000001", 4), ("4C00000105", 5), ("4C00000104", 8)] {
             rules[65] = line;
             assert_eq!(refusal(&text(&rules)), (number, 66));
         }

@@ -24,6 +24,7 @@ pub fn run(seed: u64, lists: usize) -> bool {
     println!("No difference. By outcome:");
     counts.priced.print();
     counts.written.print();
+    println!("  trees with a rest: {}", counts.with_rest);
     println!("  largest tree: {} nodes", counts.most_nodes);
     time_all();
     let (priced, written) = (counts.priced.all_met(), counts.written.all_met());
@@ -58,10 +59,16 @@ fn peer_write(text: &[u8], list: &[u8], score: &mut [u8]) -> [u64; 3] {
     }
 }
 
-/// The exact length of the score; `None` if the text or the list is refused.
-fn score_length(text: &[u8], list: &[u8]) -> Option<usize> {
+/// The peer's score; `None` if the text or the list is refused.
+fn peer_score(text: &[u8], list: &[u8]) -> Option<Vec<u8>> {
     let sheet = peer::read(text).ok()?;
-    Some(trees::score(&sheet, list)?.len())
+    trees::score(&sheet, list)
+}
+
+/// Whether a line of a score is that of a rest.
+fn has_rest(score: &[u8]) -> bool {
+    let mut leaves = score.split(|&byte| byte == b'\n').skip(1);
+    leaves.any(|line| line.get(14..16) == Some(b"04"))
 }
 
 // Comparing.
@@ -69,6 +76,7 @@ fn score_length(text: &[u8], list: &[u8]) -> Option<usize> {
 struct Counts {
     priced: Outcomes,
     written: Outcomes,
+    with_rest: usize,
     most_nodes: u64,
 }
 
@@ -78,6 +86,7 @@ fn compare_all(seed: u64, lists: usize) -> Option<Counts> {
     let mut counts = Counts {
         priced: Outcomes::new("lists priced", &[0, 1, 2, 3, 4, 5, 6, 7, 8, 12]),
         written: Outcomes::new("scores written", &[0, 1, 2, 3, 4, 5, 6, 7, 8, 12, 13]),
+        with_rest: 0,
         most_nodes: 0,
     };
     for at in 1..=lists {
@@ -113,7 +122,9 @@ fn compare(dice: &mut Dice, case: &Case, counts: &mut Counts) -> Result<(), Diff
     same("rhythm_price", library::price(text, list), price)?;
     counts.priced.add(price[0])?;
     counts.most_nodes = counts.most_nodes.max(price[2]);
-    for length in slice_lengths(dice, score_length(text, list)) {
+    let score = peer_score(text, list);
+    counts.with_rest += usize::from(score.as_deref().is_some_and(has_rest));
+    for length in slice_lengths(dice, score.map(|score| score.len())) {
         let number = compare_write(dice, case, length)?;
         counts.written.add(number)?;
     }

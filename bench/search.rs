@@ -1,5 +1,5 @@
-//! A second search for a least tree, written from document 01 alone, so that the
-//! library's can be compared with it and timed against it.
+//! A second search for a least tree, written from documents 01 and 02 alone, so
+//! that the library's can be compared with it and timed against it.
 //!
 //! A part of a bar begins at a multiple of its length, so its length and the
 //! first onset inside name it. Its row gives, for a nonterminal and a carry
@@ -8,9 +8,15 @@
 //! be, and the most that each receives (`survey`); rows of parts with one onset
 //! (`singles`); rows of parts with several (`groups`). Filling rows that no least
 //! tree needs, without asking, is faster than asking.
+//!
+//! Rests are only in bars and parts that no onset lies before. Of these, parts
+//! with onsets have the piece's first as their own first, and no carry comes to
+//! them: so their rows stand where those of no carry would.
 
 use crate::peer::{Sheet, BAR_UNITS};
-use crate::rules::{Cost, Division, Grammar, Step, LENGTHS, MAX_ARITY, MAX_LATE, NONE};
+use crate::rules::{
+    kind, Cost, Division, Grammar, Step, LENGTHS, MAX_ARITY, MAX_LATE, NONE, SILENCE,
+};
 use std::arch::x86_64::{
     __m128d, _mm_add_pd, _mm_add_sd, _mm_load_pd, _mm_min_pd, _mm_min_sd, _mm_set1_pd, _mm_set_pd,
     _mm_set_sd, _mm_store_pd, _mm_unpackhi_pd,
@@ -113,6 +119,8 @@ struct Choice {
 pub struct Search {
     /// Of the bar's onsets, then one past every part.
     offsets: Vec<u32>,
+    /// The first onset of parts that no onset lies before: 0, or past all.
+    opening: usize,
     groups: Vec<Group>,
     /// By length: which first onsets have a group, and by first onset which.
     grouped: Vec<(u32, [u16; MAX_BAR_ONSETS])>,
@@ -146,6 +154,26 @@ fn bits(mut set: u32) -> impl Iterator<Item = usize> {
 
 /// The parts of a bar.
 impl Search {
+    /// What a part receives, by its first onset and the carry handed on.
+    #[inline(always)]
+    fn received(&self, first: usize, carry: usize) -> usize {
+        if first == self.opening {
+            SILENCE
+        } else {
+            carry
+        }
+    }
+
+    /// How many of a division's parts are rests, by the first part with onsets and
+    /// its first onset: all before it or none.
+    fn rests(&self, first: usize, part: usize) -> usize {
+        if first == self.opening {
+            part
+        } else {
+            0
+        }
+    }
+
     /// Notes all parts with onsets, of a bar that receives at most so many.
     fn survey(&mut self, grammar: &Grammar, carry: u8) {
         let count = self.offsets.len() - 1;
@@ -250,10 +278,11 @@ impl Search {
 
 /// Rows of parts with one onset.
 impl Search {
-    /// The place of the first pair of an onset and a carry.
+    /// The place of the first pair of an onset and what is received. Silence has
+    /// that of no carry.
     #[inline(always)]
-    fn plane(&self, grammar: &Grammar, onset: usize, carry: usize) -> usize {
-        (onset * 4 + carry) * grammar.reached.len() * grammar.names
+    fn plane(&self, grammar: &Grammar, onset: usize, received: usize) -> usize {
+        (onset * 4 + received % SILENCE) * grammar.reached.len() * grammar.names
     }
 
     fn singles(&mut self, grammar: &Grammar) {
@@ -264,14 +293,10 @@ impl Search {
         }
         let mut befores = [0; LENGTHS];
         for onset in 0..count {
-            let offset = self.offsets[onset];
-            let mut lengths = self.alone[onset][0];
-            while lengths != 0 {
-                let at = 127 - lengths.leading_zeros() as usize;
-                lengths ^= 1 << at;
-                let reached = &grammar.reached[at];
-                befores[at] = offset - reached.part_of(offset) * reached.length;
-                self.single(grammar, onset, 0, at, befores[at]);
+            if onset == self.opening {
+                self.uncarried::<SILENCE>(grammar, onset, &mut befores);
+            } else {
+                self.uncarried::<0>(grammar, onset, &mut befores);
             }
             for carry in 1..=MAX_LATE {
                 let mut lengths = first_parts(grammar, &befores, self.alone[onset][carry]);
@@ -284,18 +309,38 @@ impl Search {
         }
     }
 
+    /// The pairs of an onset that no carry comes to: most of the work, and so with
+    /// what is received known to the compiler.
+    #[inline(always)]
+    fn uncarried<const RECEIVED: usize>(
+        &mut self,
+        grammar: &Grammar,
+        onset: usize,
+        befores: &mut [u32; LENGTHS],
+    ) {
+        let offset = self.offsets[onset];
+        let mut lengths = self.alone[onset][0];
+        while lengths != 0 {
+            let at = 127 - lengths.leading_zeros() as usize;
+            lengths ^= 1 << at;
+            let reached = &grammar.reached[at];
+            befores[at] = offset - reached.part_of(offset) * reached.length;
+            self.single(grammar, onset, RECEIVED, at, befores[at]);
+        }
+    }
+
     /// The pairs of a length, whose parts' pairs are filled.
     #[inline(always)]
-    fn single(&mut self, grammar: &Grammar, onset: usize, carry: usize, at: usize, before: u32) {
+    fn single(&mut self, grammar: &Grammar, onset: usize, received: usize, at: usize, before: u32) {
         let reached = &grammar.reached[at];
         let after = reached.length - before;
-        let here = self.plane(grammar, onset, carry);
+        let here = self.plane(grammar, onset, received);
         let base = here + at * grammar.names;
         let early = usize::from(before < after);
-        let (placed, distance) = ((carry + early).min(MAX_LATE), Cost::from(before.min(after)));
+        let (kind, distance) = (kind(received, early), Cost::from(before.min(after)));
         let [leaf, _] = LEAF[1 - early].halves();
         for name in bits(reached.names) {
-            let cost = grammar.leaf[name][placed] + distance;
+            let cost = grammar.leaf[name][kind] + distance;
             let pair = &mut self.pairs[base + name];
             // One store, which a load of the pair need not wait for.
             unsafe { _mm_store_pd(pair.0.as_mut_ptr(), _mm_add_pd(leaf, _mm_set1_pd(cost))) };
@@ -308,7 +353,7 @@ impl Search {
             } else {
                 self.plane(grammar, onset, 0)
             };
-            let singles = grammar.singles_of(step, carry, part);
+            let singles = grammar.singles_of(step, received, part);
             self.relax(
                 grammar,
                 base,
@@ -383,10 +428,12 @@ impl Search {
         let (at, carries) = (usize::from(group.at), usize::from(group.carry) + 1);
         let base = index * grammar.names;
         let leaf = LEAF.get(usize::from(group.late)).unwrap_or(&NO_ROW);
+        let received = self.received(group.first.into(), 0);
         for name in bits(grammar.reached[at].names) {
             for (carry, row) in self.rows[base + name][..carries].iter_mut().enumerate() {
-                let placed = (carry + usize::from(group.early)).min(MAX_LATE);
-                let cost = grammar.leaf[name][placed] + Cost::from(group.distance);
+                // After silence there is no carry.
+                let kind = kind(received + carry, group.early.into());
+                let cost = grammar.leaf[name][kind] + Cost::from(group.distance);
                 let [low, high] = leaf.halves();
                 let cost = unsafe { _mm_set1_pd(cost) };
                 row.set_halves(unsafe { [_mm_add_pd(low, cost), _mm_add_pd(high, cost)] });
@@ -425,7 +472,11 @@ impl Search {
             let piece = self.pieces[at as usize];
             let part = usize::from(piece.part);
             if next < part {
-                self.pass_empty(grammar, uses, (next, part), carries);
+                if usize::from(piece.first) == self.opening {
+                    self.pass_rests(grammar, uses, part);
+                } else {
+                    self.pass_empty(grammar, uses, (next, part), carries);
+                }
                 most = 0;
             }
             match (piece.group, most) {
@@ -438,6 +489,13 @@ impl Search {
         }
         if next < usize::from(step.arity) {
             self.pass_empty(grammar, uses, (next, step.arity.into()), carries);
+        }
+    }
+
+    /// Passes all parts before the one with the piece's first onset.
+    fn pass_rests(&mut self, grammar: &Grammar, uses: &[u8], until: usize) {
+        for (&at, walk) in uses.iter().zip(&mut self.walks) {
+            walk[0].0[0] += grammar.divisions[usize::from(at)].rests[until];
         }
     }
 
@@ -540,7 +598,18 @@ struct Over<'a> {
     division: &'a Division,
     /// The length of its parts.
     at: usize,
+    /// How many of its parts, from the first, are rests.
+    rests: usize,
     pieces: [Option<Piece>; MAX_ARITY],
+}
+
+/// The kind of a part without onsets, of a division that begins with some rests.
+fn kind_of_empty(part: usize, rests: usize, carry: usize) -> usize {
+    if part < rests {
+        SILENCE
+    } else {
+        carry
+    }
 }
 
 /// Trees, from the rows.
@@ -567,14 +636,15 @@ impl Search {
         &mut self,
         grammar: &Grammar,
         wanted: Wanted,
+        first: usize,
         (early, late): (usize, usize),
         distance: u32,
     ) -> bool {
-        let placed = (wanted.carry + early).min(MAX_LATE);
-        let total = grammar.leaf[wanted.name][placed] + Cost::from(distance);
+        let kind = kind(self.received(first, wanted.carry), early);
+        let total = grammar.leaf[wanted.name][kind] + Cost::from(distance);
         let fits = late == wanted.on && total == wanted.total;
         if fits {
-            self.trees.push(grammar.leaf_rule[wanted.name][placed]);
+            self.trees.push(grammar.leaf_rule[wanted.name][kind]);
         }
         fits
     }
@@ -585,13 +655,15 @@ impl Search {
         let before = offset - reached.part_of(offset) * reached.length;
         let after = reached.length - before;
         let early = usize::from(before < after);
-        if self.write_leaf(grammar, wanted, (early, 1 - early), before.min(after)) {
+        let counts = (early, 1 - early);
+        if self.write_leaf(grammar, wanted, onset, counts, before.min(after)) {
             return;
         }
+        let received = self.received(onset, wanted.carry);
         for step in grammar.steps(wanted.at) {
             let to = usize::from(step.to);
             let part = grammar.reached[to].part_of(before) as usize;
-            let singles = grammar.singles_of(step, wanted.carry, part);
+            let singles = grammar.singles_of(step, received, part);
             let carry = if part == 0 { wanted.carry } else { 0 };
             let below = self.plane(grammar, onset, carry) + to * grammar.names;
             for &at in grammar.uses(step) {
@@ -626,13 +698,15 @@ impl Search {
         mut carry: usize,
         inner: Wanted,
     ) {
+        let rests = self.rests(onset, inhabited);
         self.trees.push(division.rule);
         for (part, &name) in division.parts[..division.arity.into()].iter().enumerate() {
             if part == inhabited {
                 self.write_single(grammar, onset, inner);
                 carry = inner.on;
             } else {
-                self.trees.push(grammar.leaf_rule[usize::from(name)][carry]);
+                let kind = kind_of_empty(part, rests, carry);
+                self.trees.push(grammar.leaf_rule[usize::from(name)][kind]);
                 carry = 0;
             }
         }
@@ -640,8 +714,8 @@ impl Search {
 
     fn write_group(&mut self, grammar: &Grammar, index: usize, wanted: Wanted) {
         let group = self.groups[index];
-        let counts = (group.early.into(), group.late.into());
-        if self.write_leaf(grammar, wanted, counts, group.distance) {
+        let (first, counts) = (group.first.into(), (group.early.into(), group.late.into()));
+        if self.write_leaf(grammar, wanted, first, counts, group.distance) {
             return;
         }
         for (step, split) in grammar.steps(wanted.at).iter().zip(group.splits as usize..) {
@@ -652,6 +726,7 @@ impl Search {
                         grammar,
                         division,
                         at: step.to.into(),
+                        rests: self.rests_of(split),
                         pieces: self.pieces_of(split),
                     };
                     if self.write_over(&over, wanted) {
@@ -661,6 +736,13 @@ impl Search {
             }
         }
         unreachable!("some rule has the total");
+    }
+
+    /// How many parts of a split are rests.
+    fn rests_of(&self, split: usize) -> usize {
+        let (from, _) = self.splits[split];
+        let piece = &self.pieces[from as usize];
+        self.rests(piece.first.into(), piece.part.into())
     }
 
     /// By part: the piece, if the part has onsets.
@@ -694,9 +776,10 @@ impl Search {
         for (part, &wanted) in parts[..arity].iter().enumerate() {
             match &over.pieces[part] {
                 Some(piece) => self.write(over.grammar, piece, wanted),
-                None => self
-                    .trees
-                    .push(over.grammar.leaf_rule[wanted.name][wanted.carry]),
+                None => {
+                    let kind = kind_of_empty(part, over.rests, wanted.carry);
+                    self.trees.push(over.grammar.leaf_rule[wanted.name][kind]);
+                }
             }
         }
         true
@@ -706,7 +789,10 @@ impl Search {
     fn part_row(&self, over: &Over, part: usize, carry: usize) -> Row {
         let name = usize::from(over.division.parts[part]);
         match &over.pieces[part] {
-            None => Row::only(0, over.grammar.leaf[name][carry]),
+            None => {
+                let kind = kind_of_empty(part, over.rests, carry);
+                Row::only(0, over.grammar.leaf[name][kind])
+            }
             Some(piece) => self.row(over.grammar, name, over.at, piece, carry),
         }
     }
@@ -716,8 +802,8 @@ impl Search {
     fn passed(&self, over: &Over, part: usize, ahead: &Row) -> Row {
         let name = usize::from(over.division.parts[part]);
         let Some(piece) = &over.pieces[part] else {
-            let leaf = &over.grammar.leaf[name];
-            let sums: [Cost; 4] = std::array::from_fn(|carry| ahead.0[carry] + leaf[carry]);
+            let leaf = |carry| over.grammar.leaf[name][kind_of_empty(part, over.rests, carry)];
+            let sums: [Cost; 4] = std::array::from_fn(|carry| ahead.0[carry] + leaf(carry));
             return Row::only(0, least(least(sums[0], sums[1]), least(sums[2], sums[3])));
         };
         let mut after = NO_ROW;
@@ -759,8 +845,10 @@ impl Search {
         self.trees.clear();
         for (left, choices) in (0..).step_by(BAR_UNITS as usize).zip(&mut choices[..bars]) {
             let inside = onsets.iter().take_while(|onset| onset.0 < left + BAR_UNITS);
-            let (inside, rest) = onsets.split_at(inside.count());
-            onsets = rest;
+            let (inside, after) = onsets.split_at(inside.count());
+            let silent = onsets.len() == sheet.onsets.len();
+            self.opening = if silent { 0 } else { usize::MAX };
+            onsets = after;
             self.offsets.clear();
             self.offsets
                 .extend(inside.iter().map(|onset| onset.0 - left));
@@ -822,7 +910,7 @@ impl Search {
     fn whole_row(&self, grammar: &Grammar, carry: usize) -> Row {
         let name = grammar.start;
         match self.offsets.len() {
-            1 => Row::only(0, grammar.leaf[name][carry]),
+            1 => Row::only(0, grammar.leaf[name][self.received(0, carry)]),
             _ => self.row(grammar, name, 0, &self.whole(), carry),
         }
     }
@@ -830,7 +918,8 @@ impl Search {
     fn write_whole(&mut self, grammar: &Grammar, carry: usize, on: usize, total: Cost) {
         let (name, at) = (grammar.start, 0);
         if self.offsets.len() == 1 {
-            self.trees.push(grammar.leaf_rule[name][carry]);
+            let kind = self.received(0, carry);
+            self.trees.push(grammar.leaf_rule[name][kind]);
         } else {
             let wanted = Wanted {
                 name,

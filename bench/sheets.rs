@@ -15,6 +15,8 @@ const MAX_TEXT: usize = 16_384;
 pub const MAX_BAR_ONSETS: usize = 32;
 pub const MAX_ONSETS: usize = 512;
 pub const MAX_RULES: usize = 64;
+/// The n of a leaf that is a rest, the largest there is.
+pub const REST: usize = 4;
 const KINDS: [u8; 5] = [0x47, 0x44, 0x4C, 0x45, 0x4E];
 const DIGITS: &[u8; 16] = b"0123456789ABCDEF";
 
@@ -205,8 +207,13 @@ fn rule(dice: &mut Dice, nonterminals: usize) -> Vec<u8> {
 }
 
 pub fn leaf(dice: &mut Dice, nonterminals: usize) -> Vec<u8> {
-    let head = dice.below(nonterminals) as u8;
-    vec![0x4C, head, dice.byte(), dice.byte(), dice.below(4) as u8]
+    leaf_up_to(dice, nonterminals, REST)
+}
+
+fn leaf_up_to(dice: &mut Dice, nonterminals: usize, most: usize) -> Vec<u8> {
+    let (head, weight) = (dice.below(nonterminals) as u8, [dice.byte(), dice.byte()]);
+    let n = dice.between(0, most) as u8;
+    vec![0x4C, head, weight[0], weight[1], n]
 }
 
 pub fn division(dice: &mut Dice, nonterminals: usize, arity: usize) -> Vec<u8> {
@@ -484,7 +491,7 @@ fn arity_out_of_range(dice: &mut Dice, draft: &mut Draft) -> Option<Outcome> {
 fn leaf_n_out_of_range(dice: &mut Dice, draft: &mut Draft) -> Option<Outcome> {
     let line = leaf(dice, draft.nonterminals);
     let at = fresh_rule(dice, draft, line);
-    draft.lines[at][4] = dice.between_edged(4, 255) as u8;
+    draft.lines[at][4] = dice.between_edged(REST + 1, 255) as u8;
     Some((5, number(at)))
 }
 
@@ -921,7 +928,8 @@ fn made(dice: &mut Dice) -> Case {
 }
 
 /// The sheet for timing, always the same: twelve rules, of which six divide
-/// by 2 or 3, and 512 onsets spread unevenly over 24 bars.
+/// by 2 or 3, and 512 onsets spread unevenly over 24 bars. No leaf is a rest, so
+/// that times can be set beside those from before there were any.
 pub fn timing_sheet() -> Vec<u8> {
     const NONTERMINALS: usize = 4;
     const BARS: usize = 24;
@@ -930,7 +938,7 @@ pub fn timing_sheet() -> Vec<u8> {
     let mut lines = vec![grammar_head(&mut dice, NONTERMINALS)];
     for arity in [2, 3, 2, 3, 2, 3] {
         lines.push(division(&mut dice, NONTERMINALS, arity));
-        lines.push(leaf(&mut dice, NONTERMINALS));
+        lines.push(leaf_up_to(&mut dice, NONTERMINALS, REST - 1));
     }
     lines.push(playing_head(BARS, DURATION));
     let step = BARS * DURATION / MAX_ONSETS;

@@ -4,7 +4,7 @@
 
 use crate::lists::{duration, leaf_of, played, sheet_text, units};
 use crate::peer;
-use crate::sheets::{self, Case, Dice, MAX_RULES};
+use crate::sheets::{self, Case, Dice, MAX_RULES, REST};
 
 /// The work cells required of a sheet: few enough for many comparisons, and
 /// more only now and then.
@@ -104,11 +104,14 @@ fn grammar(dice: &mut Dice) -> Vec<Vec<u8>> {
 }
 
 /// Now and then leaves that place nothing, or little, are much the heaviest, so
-/// that a carry is worth more than the tree it leaves.
+/// that a carry is worth more than the tree it leaves. Rests are then as heavy, or
+/// light, so that a rest is worth more or less than a continuation.
 fn set_weights(dice: &mut Dice, rules: &mut [Vec<u8>], heaviest: usize) {
     let dear = dice.pick(&[0, 0, 1, 2]);
+    let dear_rests = dice.one_in(2);
     for rule in rules {
-        let is_dear = rule[0] == 0x4C && usize::from(rule[4]) < dear;
+        let n = usize::from(rule[4]);
+        let is_dear = rule[0] == 0x4C && (n < dear || (n == REST && dear_rests));
         let weight = match (dear, is_dear) {
             (0, _) => dice.between_edged(0, heaviest),
             (_, true) => dice.between(heaviest / 2, heaviest),
@@ -120,14 +123,17 @@ fn set_weights(dice: &mut Dice, rules: &mut [Vec<u8>], heaviest: usize) {
 
 /// What leaves a nonterminal has, by n: most often all, else some with which
 /// certain carries are needed, or of no use.
-const LEAVES: [&[usize]; 8] = [
+const LEAVES: [&[usize]; 11] = [
+    &[0, 1, 2, 3, REST],
+    &[0, 1, 2, 3, REST],
     &[0, 1, 2, 3],
-    &[0, 1, 2, 3],
-    &[0, 1],
+    &[0, 1, REST],
     &[1],
-    &[1, 2, 3],
+    &[1, REST],
+    &[1, 2, 3, REST],
     &[2, 3],
     &[0],
+    &[REST],
     &[],
 ];
 

@@ -1,5 +1,6 @@
-//! A second pricing of trees and writing of score lines, written from document
-//! 01 alone, so that the library's can be compared with it and timed against it.
+//! A second pricing of trees and writing of score lines, written from documents
+//! 01 and 02 alone, so that the library's can be compared with it and timed
+//! against it.
 //!
 //! `rustc --test bench/trees.rs` builds the tests at the end of this file.
 
@@ -7,7 +8,7 @@
 #[path = "peer.rs"]
 pub mod peer;
 
-use peer::{Rule, Sheet, BAR_UNITS};
+use peer::{Rule, Sheet, BAR_UNITS, REST};
 use std::ops::Range;
 use std::slice;
 
@@ -164,6 +165,8 @@ impl<V: Visitor> Walk<'_, V> {
     #[inline(always)]
     fn leaf(&mut self, left: u32, length: u32, n: u8) -> bool {
         let first = self.passed - self.carried;
+        // Of the whole piece: an onset inside this leaf does not end the silence.
+        let silent = self.passed == 0;
         let mut placed = self.carried;
         self.carried = 0;
         while self.next_unit < left + length {
@@ -184,7 +187,11 @@ impl<V: Visitor> Walk<'_, V> {
             n,
             placed: first..first + placed,
         });
-        self.carried <= MAX_LATE && usize::from(n) == placed.min(3)
+        let kind = match placed {
+            0 if silent => REST.into(),
+            _ => placed.min(3),
+        };
+        self.carried <= MAX_LATE && usize::from(n) == kind
     }
 
     fn pass(&mut self) {
@@ -301,30 +308,35 @@ mod tests {
     use super::peer::tests::S;
     use super::*;
 
-    /// Rule n is a leaf of n; the others divide by 2, 5 and 8. Weights 1 to 7.
-    const LEAVES_AND_DIVISIONS: [&str; 8] = [
+    /// Rule n is a leaf of n; the others divide by 2, 5 and 8. Weights 1 to 8.
+    const LEAVES_AND_DIVISIONS: [&str; 9] = [
         "4701000001",
         "4C00000100",
         "4C00000201",
         "4C00000302",
         "4C00000403",
-        "44000005020000",
-        "44000006050000000000",
-        "44000007080000000000000000",
+        "4C00000504",
+        "44000006020000",
+        "44000007050000000000",
+        "44000008080000000000000000",
     ];
-    const BY_2: u8 = 4;
-    const BY_5: u8 = 5;
-    const BY_8: u8 = 6;
+    const BY_2: u8 = 5;
+    const BY_5: u8 = 6;
+    const BY_8: u8 = 7;
 
     fn sheet(lines: &[&str]) -> Sheet {
         let text = lines.join("\n") + "\n";
         peer::read(text.as_bytes()).expect("the sheet is accepted")
     }
 
-    /// S with one onset, at a time in microseconds.
-    fn s_with_one_at(time: u32) -> Sheet {
+    /// S with one onset, at a time in microseconds, and some rules added.
+    fn s_with_rules_and_one_at(rules: &[&str], time: u32) -> Sheet {
         let onset = format!("4E{time:08X}3E40");
-        sheet(&[&S[..6], &[onset.as_str()]].concat())
+        sheet(&[&S[..5], rules, &S[5..6], &[onset.as_str()]].concat())
+    }
+
+    fn s_with_one_at(time: u32) -> Sheet {
+        s_with_rules_and_one_at(&[], time)
     }
 
     /// A sheet whose microseconds are units; the pitches count from 0.
@@ -377,20 +389,112 @@ mod tests {
     fn neighbours_of_s() {
         assert_eq!(total(&s_with_one_at(499_999), &[0]), Some(5_049));
         assert_eq!(total(&s_with_one_at(500_000), &[0]), Some(5_050));
-        assert_eq!(total(&s_with_one_at(999_999), &[1, 2, 3]), Some(91));
-        assert_eq!(total(&s_with_one_at(1_000_000), &[1, 2, 3]), Some(90));
+        assert_eq!(total(&s_with_one_at(999_999), &[0]), Some(10_089));
+        assert_eq!(total(&s_with_one_at(999_999), &[1, 2, 3]), None);
         let two_bars = ["4502001E8480", "4E000000003C40", "4E001E847F3E40"];
         let two_bars = sheet(&[&S[..5], &two_bars[..]].concat());
         assert_eq!(total(&two_bars, &[0, 0]), Some(21));
     }
 
+    /// S's lists of one bar whose heads fit: no division comes below the first.
+    const LISTS_OF_S: [&[u8]; 5] = [&[0], &[1, 2, 2], &[1, 2, 3], &[1, 3, 2], &[1, 3, 3]];
+
     #[test]
-    fn s_with_both_onsets_at_0_has_no_tree() {
-        let both = sheet(&[&S[..7], &S[6..7]].concat());
-        // A leaf of two is missing, and no division comes below the first.
-        for list in [&[0][..], &[1, 2, 2], &[1, 2, 3], &[1, 3, 2], &[1, 3, 3]] {
-            assert!(!valid(&both, list));
+    fn neighbours_of_s_without_a_tree() {
+        // A leaf of two is missing.
+        let both_at_0 = sheet(&[&S[..7], &S[6..7]].concat());
+        // A rest is missing.
+        let at_the_middle = s_with_one_at(1_000_000);
+        for list in LISTS_OF_S {
+            assert!(!valid(&both_at_0, list));
+            assert!(!valid(&at_the_middle, list));
         }
+    }
+
+    #[test]
+    fn s_with_a_rest() {
+        let with_rest = |time| s_with_rules_and_one_at(&["4C01000204"], time);
+        let late = price(&with_rest(500_000), &[1, 4, 3]).unwrap();
+        assert_eq!((late.r, late.d), (9, 5_040));
+        assert_eq!(total(&with_rest(1_000_000), &[1, 4, 3]), Some(90));
+        for list in LISTS_OF_S {
+            assert!(!valid(&with_rest(1_000_000), list));
+        }
+        // Here the second half is a continuation.
+        assert!(valid(&with_rest(0), &[1, 3, 2]));
+        assert!(!valid(&with_rest(0), &[1, 3, 4]));
+    }
+
+    #[test]
+    fn a_rest_is_written() {
+        let lines = "5402000000000000000700000000000000070000000000000000\n\
+                     53000000004EC00400\n\
+                     5300004EC04EC0010100\n";
+        let written = score(&played(2, &[20_160]), &[REST, 1]).unwrap();
+        assert_eq!(String::from_utf8(written).unwrap(), lines);
+    }
+
+    #[test]
+    fn silence_is_of_the_whole_piece() {
+        let at_0 = played(2, &[0]);
+        assert!(valid(&at_0, &[1, 0]));
+        assert!(!valid(&at_0, &[1, REST]));
+        let in_bar_2 = played(3, &[20_160]);
+        assert!(valid(&in_bar_2, &[REST, 1, 0]));
+        for list in [&[0, 1, 0], &[REST, 1, REST], &[0, 1, REST]] {
+            assert!(!valid(&in_bar_2, list));
+        }
+    }
+
+    #[test]
+    fn silent_bars_are_rests_and_not_divided() {
+        let in_bar_3 = played(3, &[40_320]);
+        assert!(valid(&in_bar_3, &[REST, REST, 1]));
+        assert!(!valid(&in_bar_3, &[REST, 0, 1]));
+        assert!(!valid(&in_bar_3, &[REST, BY_2, REST, REST, 1]));
+    }
+
+    #[test]
+    fn a_late_onset_inside_does_not_end_the_silence() {
+        let late = played(2, &[15_000]);
+        assert!(valid(&late, &[REST, 1]));
+        assert!(!valid(&late, &[0, 1]));
+        // After the leaf where it is placed there is none.
+        let parts = played(2, &[5_000]);
+        assert!(valid(&parts, &[BY_2, BY_2, REST, 1, 0, 0]));
+        assert!(!valid(&parts, &[BY_2, BY_2, REST, 1, REST, 0]));
+        assert!(!valid(&parts, &[BY_2, BY_2, REST, 1, 0, REST]));
+    }
+
+    #[test]
+    fn rests_among_the_parts_of_a_division() {
+        // Parts of 4,032: the third has the onset, early or late.
+        let early = played(1, &[9_000]);
+        assert!(valid(&early, &[BY_5, REST, REST, 1, 0, 0]));
+        let late = played(1, &[11_000]);
+        assert!(valid(&late, &[BY_5, REST, REST, REST, 1, 0]));
+        for list in [
+            [BY_5, REST, 0, 1, 0, 0],
+            [BY_5, 0, REST, 1, 0, 0],
+            [BY_5, REST, REST, 1, REST, 0],
+            [BY_5, REST, REST, 0, 1, 0],
+            [BY_5, REST, REST, REST, 1, REST],
+        ] {
+            assert!(!valid(&early, &list));
+            assert!(!valid(&late, &list));
+        }
+        // A division below, whose first half is still before the onset.
+        assert!(valid(&late, &[BY_5, REST, REST, BY_2, REST, 1, 0, 0]));
+        assert!(!valid(&late, &[BY_5, REST, REST, BY_2, 0, 1, 0, 0]));
+    }
+
+    #[test]
+    fn a_leaf_with_something_placed_is_no_rest() {
+        assert!(!valid(&played(1, &[0]), &[REST]));
+        // Not even by a carry, nor with four.
+        assert!(!valid(&played(2, &[15_000]), &[REST, REST]));
+        assert!(!valid(&played(1, &[5; 4]), &[REST]));
+        assert!(valid(&played(1, &[5; 4]), &[3]));
     }
 
     #[test]
@@ -417,9 +521,9 @@ mod tests {
     fn an_onset_at_the_middle_is_late() {
         let early = played(2, &[10_079]);
         assert_eq!(price(&early, &[1, 0]).unwrap().d, 10_079);
-        assert!(!valid(&early, &[0, 1]));
+        assert!(!valid(&early, &[REST, 1]));
         let late = played(2, &[10_080]);
-        assert_eq!(price(&late, &[0, 1]).unwrap().d, 10_080);
+        assert_eq!(price(&late, &[REST, 1]).unwrap().d, 10_080);
         assert!(!valid(&late, &[1, 0]));
     }
 
@@ -430,8 +534,8 @@ mod tests {
         let tree =
             |first: u8, second: u8| [&halvings[..], &[first, second, 0, 0, 0, 0, 0]].concat();
         assert!(valid(&played(1, &[157]), &tree(1, 0)));
-        assert!(!valid(&played(1, &[157]), &tree(0, 1)));
-        assert!(valid(&played(1, &[158]), &tree(0, 1)));
+        assert!(!valid(&played(1, &[157]), &tree(REST, 1)));
+        assert!(valid(&played(1, &[158]), &tree(REST, 1)));
         assert!(!valid(&played(1, &[158]), &tree(1, 0)));
     }
 
@@ -440,7 +544,7 @@ mod tests {
         let units = [5; 35];
         for (placed, n) in [(1, 1), (2, 2), (3, 3), (4, 3), (32, 3)] {
             let crowded = played(1, &units[..placed]);
-            for offered in 0..4 {
+            for offered in 0..=REST {
                 assert_eq!(valid(&crowded, &[offered]), offered == n);
             }
             assert_eq!(price(&crowded, &[n]).unwrap().d, 5 * placed as u64);
@@ -449,53 +553,54 @@ mod tests {
 
     #[test]
     fn at_most_three_are_late() {
-        assert!(valid(&played(2, &[15_000; 3]), &[0, 3]));
-        assert!(!valid(&played(2, &[15_000; 4]), &[0, 3]));
+        assert!(valid(&played(2, &[15_000; 3]), &[REST, 3]));
+        assert!(!valid(&played(2, &[15_000; 4]), &[REST, 3]));
         // A carry is counted at its own leaf, so three more may be late there.
         let units = [15_000, 15_000, 15_000, 35_160, 35_160, 35_160];
-        assert_eq!(price(&played(3, &units), &[0, 3, 3]).unwrap().d, 6 * 5_160);
+        let carried_twice = price(&played(3, &units), &[REST, 3, 3]).unwrap();
+        assert_eq!(carried_twice.d, 6 * 5_160);
     }
 
     #[test]
     fn carries_join_early_onsets() {
         let units = [15_000, 20_000, 20_160, 20_170];
         let joined = played(2, &units);
-        assert_eq!(price(&joined, &[0, 3]).unwrap().d, 5_160 + 160 + 10);
-        assert!(!valid(&joined, &[0, 2]));
-        let text = String::from_utf8(score(&joined, &[0, 3]).unwrap()).unwrap();
+        assert_eq!(price(&joined, &[REST, 3]).unwrap().d, 5_160 + 160 + 10);
+        assert!(!valid(&joined, &[REST, 2]));
+        let text = String::from_utf8(score(&joined, &[REST, 3]).unwrap()).unwrap();
         let lines: Vec<&str> = text.lines().collect();
-        assert_eq!(lines[1], "53000000004EC00000");
+        assert_eq!(lines[1], "53000000004EC00400");
         assert_eq!(lines[2], "5300004EC04EC0030400010203");
     }
 
     #[test]
     fn nothing_is_carried_out_of_the_last_leaf() {
-        assert!(!valid(&played(1, &[15_000]), &[0]));
+        assert!(!valid(&played(1, &[15_000]), &[REST]));
         assert!(!valid(&played(1, &[15_000]), &[1]));
-        assert!(valid(&played(1, &[15_000]), &[BY_2, 0, 1]));
-        assert!(!valid(&played(1, &[15_120]), &[BY_2, 0, 1]));
+        assert!(valid(&played(1, &[15_000]), &[BY_2, REST, 1]));
+        assert!(!valid(&played(1, &[15_120]), &[BY_2, REST, 1]));
     }
 
     #[test]
     fn carries_go_over_bar_lines() {
         let over = played(2, &[20_000]);
-        assert_eq!(price(&over, &[BY_2, 0, 0, 1]).unwrap().d, 160);
-        assert!(!valid(&over, &[BY_2, 0, 0, 0]));
+        assert_eq!(price(&over, &[BY_2, REST, REST, 1]).unwrap().d, 160);
+        assert!(!valid(&over, &[BY_2, REST, REST, 0]));
         // The next leaf may be a part of the next bar's division.
         let into_part = played(2, &[20_000, 30_240]);
-        assert_eq!(price(&into_part, &[0, BY_2, 1, 1]).unwrap().d, 160);
+        assert_eq!(price(&into_part, &[REST, BY_2, 1, 1]).unwrap().d, 160);
     }
 
     #[test]
     fn only_inhabited_intervals_are_divided() {
         let one = played(2, &[20_000]);
         // The second bar only receives a carry.
-        assert!(!valid(&one, &[0, BY_2, 1, 0]));
-        assert!(valid(&one, &[0, 1]));
+        assert!(!valid(&one, &[REST, BY_2, 1, 0]));
+        assert!(valid(&one, &[REST, 1]));
         // An onset on the right bound is not inside.
         let on_bound = played(2, &[20_160]);
-        assert!(!valid(&on_bound, &[BY_2, 0, 0, 1]));
-        assert!(valid(&on_bound, &[0, BY_2, 1, 0]));
+        assert!(!valid(&on_bound, &[BY_2, REST, REST, 1]));
+        assert!(valid(&on_bound, &[REST, BY_2, 1, 0]));
         // Nor is one before the left bound.
         let before = played(1, &[0]);
         assert!(valid(&before, &[BY_2, BY_2, 1, 0, 0]));

@@ -77,7 +77,8 @@ fn played_near(dice: &mut Dice, place: usize) -> usize {
 /// 64 rules of 16 nonterminals over 64 bars of eight onsets anywhere. The first
 /// nonterminals, as many as `dividing`, have a division of each of their arities
 /// into each other; leaves fill the rest. Few that divide much are heavier than
-/// many that divide little: more rows are reached.
+/// many that divide little: more rows are reached. The rules leave no room for
+/// rests, so the first onset is at the front.
 fn heaviest(dividing: usize, arities: impl Fn(usize) -> Vec<usize>) -> Vec<u8> {
     const NONTERMINALS: usize = 16;
     const BARS: usize = 64;
@@ -94,7 +95,8 @@ fn heaviest(dividing: usize, arities: impl Fn(usize) -> Vec<usize>) -> Vec<u8> {
         let (n, head) = (at / NONTERMINALS, at % NONTERMINALS);
         lines.push(light(leaf_of(&mut dice, head, n), &mut dice));
     }
-    let units = units_by_bar(&mut dice, BARS, eight_anywhere);
+    let mut units = units_by_bar(&mut dice, BARS, eight_anywhere);
+    units[0] = 0;
     played(&mut dice, lines, BARS, DURATION, &units)
 }
 

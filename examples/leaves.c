@@ -1,4 +1,4 @@
-/* Finds a least tree of a sheet and prints its leaves: bar, place and length in units, n, and the pitches placed there. */
+/* Finds a least tree of a sheet and prints its leaves: bar, place and length in units, n (4 is a rest), and the pitches placed there. */
 #include <inttypes.h>
 #include <stdio.h>
 #include <stdlib.h>

@@ -5,8 +5,8 @@
    handed to one call must not overlap. Nothing is kept between calls, and calls on different slices may run side by side. There is no heap:
    a thread that calls rhythm_find wants 256 KiB of stack (on x86-64 128 KiB were enough for the heaviest sheets of bench/run).
 
-   A sheet, its valid trees, R, D, totals, score lines and refusal numbers are those of document 01; docs/FORMAT.md explains them, and
-   docs/PROOF.md says where each promise is stated and proved. A refusal gives its number and its line (0 where it has none), zeros
+   A sheet, its valid trees, R, D, totals, score lines and refusal numbers are those of documents 01 and 02; docs/FORMAT.md explains them,
+   and docs/PROOF.md says where each promise is stated and proved. A refusal gives its number and its line (0 where it has none), zeros
    elsewhere, and keeps every slice but the work slice after refusal 11. examples/ has a program in C and one in Rust. */
 #ifndef RHYTHM_H
 #define RHYTHM_H
@@ -40,7 +40,9 @@ uint32_t rhythm_onset_unit(const uint8_t *text, size_t text_length, size_t i);
 void rhythm_price(const uint8_t *text, size_t text_length, const uint8_t *list, size_t list_length, uint64_t answer[6]);
 
 /* Writes the score lines of a list of bytes from the front of the score slice. answer: refusal number, line, byte count. 13: the slice is
-   shorter than the exact text; one of RHYTHM_SCORE_MOST bytes never is. Bytes behind the text are kept. */
+   shorter than the exact text; one of RHYTHM_SCORE_MOST bytes never is. Bytes behind the text are kept.
+   In a leaf's line n is 0 for a continuation, 1 for a note, 2 and 3 for a note with grace notes, and 4 for a rest: with nothing placed a
+   leaf is a rest before the first onset of the piece, and a continuation behind it. */
 void rhythm_write(const uint8_t *text, size_t text_length, const uint8_t *list, size_t list_length, uint8_t *score, size_t score_length,
                   uint64_t answer[3]);
 

@@ -67,11 +67,14 @@ module _ {s : Sheet} {plan us rows : List ℕ} {bar : Bar} {r i k l : ℕ} {left
   gs = partsAt s l left (drop i (e .parts .divides .parts))
 
   -- an idle carry state
-  pub passed-idle : i < k → Idle s (at y) c → PassedAs s rows gs y v c NONE
+  pub passed-idle : i < k → Idle s from (at y) c → PassedAs s rows gs y v c NONE
   passed-idle h idle = record {
     is = subst (λ (hs : List Item). Passed s hs (at y) (at v) c NONE)
         (sym (first-part s l left (e .parts .divides .parts) i (omega (arith, e .parts .divides .count))))
-        (inr (idle-dominated s rules _ _ (at y) (at v) c (e .parts .few) idle, omega arith));
+        (inr (
+          idle-dominated s rules _ _ (at y) (at v) c (e .parts .few) (subst (λ (b : ℕ). Idle s b (at y) c) (e .parts .first) idle),
+          omega arith,
+        ));
     low = omega arith;
     sound = e .parts .sound;
   }

@@ -1,5 +1,5 @@
--- Carry states that no least list passes: where carrying nothing is cheaper by more than all that a carry can save. Leaving them out of the
--- vector behind an item changes no first least list.
+-- Carry states that no least list passes: where carrying nothing is cheaper by more than all that a carry can save, with an onset before.
+-- Leaving them out of the vector behind an item changes no first least list.
 use Prim.Native.Nat.{ℕ, _+_, _≤_, _<_}
 use mathlib.Core.Path.{_≡_, refl}
 use mathlib.Core.List.{List, [], _∷_}
@@ -12,6 +12,7 @@ use Rattle.derivations.specs.Derivation.{Item}
 use Rattle.derivations.specs.Minima.{lowest, lowest-cap, lowest-le, lowest-at}
 use Rattle.derivations.specs.Folds.{backward}
 use Rattle.derivations.specs.Interchange.{Interchangeable, interchangeable-item}
+use Rattle.trees.specs.ValidTrees.{onsetsBefore}
 use Rattle.trees.specs.Instance.{instanceOf}
 use Rattle.trees.specs.LeastTotal.{NONE, carries, cellOf}
 use Rattle.trees.specs.Laws.{lawful}
@@ -27,22 +28,23 @@ module _ (s : Sheet) (good : GoodRules (s .grammar)) where
   unfolding backward
   suffix-low g gs v c = lowest-cap NONE _ carries
 
-  -- from carry state 0 items total at most what they total from c, and what c can save
-  pub suffix-saved : (g : Item) (gs : List Item) (v : ℕ → ℕ) (c : ℕ) → c < carries
+  -- with an onset before them, items total from carry state 0 at most what they total from c, and what c can save
+  pub suffix-saved : (g : Item) (gs : List Item) (v : ℕ → ℕ) (c : ℕ) → c < carries → 0 < onsetsBefore s (g .left)
       → suffixCosts s (g ∷ gs) v 0 ≤ suffixCosts s (g ∷ gs) v c + savedBy s c
   unfolding backward
-  suffix-saved g gs v c hc = elim (decLt (suffixCosts s (g ∷ gs) v c) NONE) [
+  suffix-saved g gs v c hc begun = elim (decLt (suffixCosts s (g ∷ gs) v c) NONE) [
     | yes h ↦
         let u : ℕ → ℕ = suffixCosts s gs v in
         let (m, hm, e) = lowest-at NONE (λ i. cellOf s g c i + u i) carries h in
-        omega (arith, e, lowest-le NONE (λ i. cellOf s g 0 i + u i) carries m hm, cell-saved s good c hc g m hm)
+        omega (arith, e, lowest-le NONE (λ i. cellOf s g 0 i + u i) carries m hm, cell-saved s good c hc g begun m hm)
     | no h ↦ omega (arith, suffix-low g gs v 0)
   ]
 
   -- so no least list passes an idle carry state
-  pub idle-dominated : (g : Item) (gs : List Item) (y v : ℕ → ℕ) (c : ℕ) → c < carries → Idle s y c → Dominated s (g ∷ gs) y v c
+  pub idle-dominated : (g : Item) (gs : List Item) (y v : ℕ → ℕ) (c : ℕ) → c < carries → Idle s (onsetsBefore s (g .left)) y c
+      → Dominated s (g ∷ gs) y v c
   idle-dominated g gs y v c hc (inl h) = inl h
-  idle-dominated g gs y v c hc (inr (_, h)) = inr (omega (arith, suffix-saved g gs v c hc))
+  idle-dominated g gs y v c hc (inr (_, begun, h)) = inr (omega (arith, suffix-saved g gs v c hc begun))
 
   -- an item with the totals y, and the vector w that stands for what is behind it
   module _ (g : Item) {rows : List ℕ} {gs : List Item} {y v w : List ℕ} (c : ℕ) (hc : c < carries)

@@ -18,10 +18,10 @@ use plan::Plan;
 use plan::child;
 use plan::length;
 use plan::split_at;
+use rows::carry::idle;
 use rows::slots::Bar;
 use rows::slots::first_behind;
 use rows::table::cells;
-use rows::table::idle;
 use rows::table::parts;
 use rows::vector::NO_CELL;
 use rows::vector::NONE;
@@ -70,7 +70,7 @@ fn passed<'a>(
         → PassedAs s (now (rows .exit)) (partsAt s l left (drop i (e .parts .divides .parts))) y v c w)
         ⌝ }
 {
-    if idle(plan, y, c) {
+    if idle(plan, y, c, from) {
         return NONE;
     }
     let x = parts(plan, units, rows, bar, r, i, k, l, left, from, c);

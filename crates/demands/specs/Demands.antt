@@ -1,6 +1,7 @@
 -- The three demands, clause by clause, as theorems about the entries: whatever meets an entry's contract has what the clause asks. A reader
 -- needs this page and the definitions of `readSheet` (sheet/specs/Reading), `ValidTree`, `KindFits`, `Priced`, `totalOf`
--- (trees/specs/ValidTrees), `treeBytes`, `workCells` (sizes/specs/Sizes), `scoreText` (score/specs/Score). x′ is x after the call.
+-- (trees/specs/ValidTrees), `RestFits` (trees/specs/Kinds), `treeBytes`, `workCells` (sizes/specs/Sizes), `scoreText`
+-- (score/specs/Score). x′ is x after the call.
 -- Contracts: `Reads` (sheet/specs/Held), `Prices` (pricing/specs/Pricing), `Writes` (score/specs/Writing), `Finds` (finding/specs/Finding),
 -- `Reports` (reporting/specs/Reporting). Names:
 --   Refuses text k n, Accepts text s   `readSheet text` is a refusal with number k and line n, or the sheet s
@@ -26,6 +27,7 @@ use Rattle.sheet.specs.Held.{grammarTable, playingTable, readingOf, Reads}
 use Rattle.sheet.specs.Accepted.{Refuses, Accepts}
 use Rattle.sizes.specs.Sizes.{treeBytes, workCells}
 use Rattle.trees.specs.ValidTrees.{ValidTree, Priced, totalOf, entries, KindFits}
+use Rattle.trees.specs.Kinds.{RestFits, rests-fit}
 use Rattle.pricing.specs.declared.Priced as answer
 use Rattle.pricing.specs.Pricing.{Prices}
 use Rattle.pricing.specs.PriceLaws as price
@@ -115,6 +117,11 @@ module _ (text : List ℕ) (s : Sheet) (a : Accepts text s) where
       × (r ≡ writtenAs (length (scoreOf s p))) × (score′ ≡ scoreOf s p ++ drop (length (scoreOf s p)) score)
   write-sound list score score′ r h z =
       let (R, D, p, e, f) = write.zero-then-own text list score (h .0) (h .1) s a z in (R, D, p, p .valid .kinds-fit, e, f)
+
+  -- Document 02, (i). "A leaf with nothing placed and no onset before its left bound is a rest. It needs a leaf rule with n = 4, and n = 0
+  -- no longer fits it": at each leaf of a list that is priced, written or handed back
+  pub rests-exactly : (list : List ℕ) (v : ValidTree s list) → Every (RestFits s) (entries s (v .leaves))
+  rests-exactly list v = rests-fit s list v
 
   -- "An offered list is priced exactly when it is a valid tree for that sheet"
   pub price-exact : (list : List ℕ) (r : answer.Priced) → Prices text list r → (r .number ≡ 0) ↔ ValidTree s list

@@ -13,6 +13,7 @@ pub use packed::pack_rules;
 pub use packed::pack_units;
 pub use packed::rule_at;
 pub use packed::unpacked;
+use sheet::KIND_MOST;
 use sheet::RULES_MOST;
 use sheet::Rule;
 use sheet::Units;
@@ -45,11 +46,20 @@ pub enum Expansion {
     },
 }
 
-// The token kind of a leaf by its placed count and the number of onsets before its left bound, which does not change it.
+// The kind of a leaf with nothing placed and no onset before it.
+const REST: u8 = KIND_MOST;
+
+// The token kind of a leaf by its placed count and the number of onsets before its left bound.
 pub fn token_of(placed: usize, before: usize) -> u8
     ensures { λ r. ⌜ r ≡ token placed before ⌝ }
 {
-    if placed < 3 { placed as u8 } else { 3 }
+    if 3 <= placed {
+        return 3;
+    }
+    if placed != 0 {
+        return placed as u8;
+    }
+    if before == 0 { REST } else { 0 }
 }
 
 // What a leaf over an interval does with the onsets inside; `from` is the place of the first onset at or behind its left bound.

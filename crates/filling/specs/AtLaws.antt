@@ -94,7 +94,7 @@ module _ {s : Sheet} {plan us order rows pairs best : List ℕ} {bar : Bar} {fro
       there : Lone s bar l (units left) from
       there =
           rw left-is
-          (lone-there (e .of-bar) (e .length-in) (rw (sym right-is, sym left-is) told))
+          (lone-there (e .of-bar) (e .length-in) (e .begun) (rw (sym right-is, sym left-is) told))
 
       along-behind : d ≡ getD us from 0 - left
       along-behind = omega (arith, ee, at-along)
@@ -122,6 +122,7 @@ module _ {s : Sheet} {plan us order rows pairs best : List ℕ} {bar : Bar} {fro
             inhabited = omega (arith, there .one);
             place = refl;
           };
+          begun = e .begun;
           one = there .one;
         }
 

@@ -37,12 +37,13 @@ pub record OfBar (s : Sheet) (plan us : List ℕ) (bar : Bar) (from : ℕ) : Typ
   pub behind : bar .first ≤ from
   pub before : from < firstAt s (bar .number * barUnits + barUnits)
 
--- the interval from `left` on that has the length with index l lies in the bar, at a multiple of its length, and the onset at place `from`
--- is the only one inside
+-- the interval from `left` on that has the length with index l lies in the bar, at a multiple of its length, the onset at place `from` is
+-- the only one inside, and one lies before
 pub record Lone (s : Sheet) (bar : Bar) (l : ℕ) (left : Units) (from : ℕ) : Type 0 where
   pub length-in : l < lengths s
   pub aligned : (q : ℕ) → Aligned (bar .number * barUnits) (itemAt s q l left)
   pub first : from ≡ firstAt s (left .0)
+  pub begun : 0 < from
   pub one : onsetsIn s (left .0) (lengthAt s l) ≡ 1
 
 -- the cells of the lengths from index n on where the onset is alone, for each nonterminal in use: cells 0 and 1 of its row
@@ -151,9 +152,10 @@ pub record KeptTo (s : Sheet) (rows before pairs best : List ℕ) (l n : ℕ) : 
   pub cell : (q m : ℕ) → q < n → m < 2 → getD pairs (32 * l + 2 * q + m) 0 ≡ getD best (2 * q + m) 0
   pub kept : (i : ℕ) → 32 * l + 32 ≤ i → getD pairs i 0 ≡ getD before i 0
 
--- an interval of an onset, or all of them, are to be filled
+-- an interval of an onset that is not the first of the piece, or all of them, are to be filled
 pub record AtEntry (s : Sheet) (plan us order rows pairs best : List ℕ) (bar : Bar) (from l : ℕ) : Type 0 where
   pub of-bar : OfBar s plan us bar from
+  pub begun : 0 < from
   pub ordered : ByArity s order
   pub sound : Sound s rows
   pub length-in : l < lengths s

@@ -82,7 +82,7 @@ module _ {s : Sheet} {plan order pairs best : List ℕ} {l d : ℕ} (e : LengthE
             subst (OneAt s (e .left .0) (lengthAt s h) k)
             (sym (j-is ∙ ap (λ (i : ℕ). (unitAt s i - e .left .0) / lengthAt s h) (e .lone .first)))
             (one-at s (e .in-bar .onsets .good) (e .left .0) (lengthAt s l) (lone-near (e .in-bar) (e .lone)) (e .lone .one)
-            (lengthAt s h) k (told .whole f))
+            (lengthAt s h) k (told .whole f) (omega (arith, e .lone .first, e .lone .begun)))
 
         pub part-few : j < 8
         part-few = omega (arith, there .within)
@@ -100,6 +100,7 @@ module _ {s : Sheet} {plan order pairs best : List ℕ} {l d : ℕ} (e : LengthE
           length-in = told .shorter f;
           aligned = aligned;
           first = e .lone .first ∙ sym (one-first s (e .in-bar .onsets .good) (e .left .0) (lengthAt s h) k j there);
+          begun = e .lone .begun;
           one = there .here;
         }
 

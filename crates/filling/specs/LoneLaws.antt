@@ -116,12 +116,13 @@ module _ {s : Sheet} {plan us : List ℕ} {bar : Bar} {from : ℕ} (o : OfBar s 
         ∙ sym bound-is
 
     -- the cells beside the onset say that it is alone
-    pub lone-there : LoneBy us (bar .first) from bound (bound + p) true → Lone s bar l (units bound) from
-    lone-there told =
+    pub lone-there : 0 < from → LoneBy us (bar .first) from bound (bound + p) true → Lone s bar l (units bound) from
+    lone-there begun told =
         record {
           length-in = below;
           aligned = λ q. record { times = (unit - start) / p; is = bound-is; ends = ends };
           first = first;
+          begun = begun;
           one = one-onset s good bound p bound-near (omega (arith, ap (unitAt s) (sym first), along-less, bound-along .2))
               (omega (arith, told .yes refl .0, cells (from + 1), ap (λ (i : ℕ). unitAt s (i + 1)) (sym first)));
         }

@@ -29,10 +29,12 @@ module _ {s : Sheet} {plan us order rows pairs : List ℕ} {bar : Bar} {from : �
         },
       )
 
-  module _ {now cells best : List ℕ} {l : ℕ} (some-left : 0 < l) (p : (l ≤ lengths s) × FilledAt s order now cells best bar from l) where
+  module _ {now cells best : List ℕ} {l : ℕ} (begun : 0 < from) (some-left : 0 < l)
+      (p : (l ≤ lengths s) × FilledAt s order now cells best bar from l) where
     pub onset-asked : AtEntry s plan us order now cells best bar from (l - 1)
     onset-asked = record {
       of-bar = e .of-bar;
+      begun = begun;
       ordered = e .ordered;
       sound = p .1 .sound;
       length-in = omega (arith, p .0);

@@ -62,7 +62,8 @@ module _ {s : Sheet} {plan pairs : List ℕ} {r h j : ℕ} (e : RuleEntry s plan
       subst (OneAt s left (lengthAt s h) (length parts)) (sym is)
       (one-at s (e .known .in-bar .onsets .good) left (lengthAt s (e .known .l)) (lone-near (e .known .in-bar) (e .known .lone))
       (e .known .lone .one) (lengthAt s h) (length parts)
-      (e .known .whole ∙ ap (λ (n : ℕ). n * lengthAt s h) (sym (e .rule .count))))
+      (e .known .whole ∙ ap (λ (n : ℕ). n * lengthAt s h) (sym (e .rule .count)))
+      (omega (arith, e .known .lone .first, e .known .lone .begun)))
     where
       is : j ≡ (unitAt s (firstAt s left) - left) / lengthAt s h
       is = e .known .part ∙ ap (λ (i : ℕ). (unitAt s i - left) / lengthAt s h) (e .known .lone .first)

@@ -30,11 +30,12 @@ use rows::slots::store;
 use rows::vector::NO_CELL;
 use rows::vector::least;
 use sheet::BAR_UNITS;
+use sheet::NONTERMINALS_MOST;
 use sheet::Units;
 use sizes::LENGTHS_MOST;
 
-// The cells of a length's pairs: two for each of 16 nonterminals.
-const BEST_CELLS: usize = 32;
+// The cells of a length's pairs: two for each nonterminal.
+const BEST_CELLS: usize = 2 * NONTERMINALS_MOST;
 
 // The cells of the pairs of all lengths.
 const PAIRS_CELLS: usize = BEST_CELLS * LENGTHS_MOST;
@@ -236,7 +237,8 @@ fn fill_at<'a>(
     }
 }
 
-// Stores the rows of the intervals in which the onset at place `from` is the only one.
+// Stores the rows of the intervals in which the onset at place `from` is the only one; none for the first of the piece, since a part before
+// it is a rest.
 fn fill_onset<'a>(
     plan: &'a Plan,
     units: &'a PackedUnits,
@@ -253,6 +255,9 @@ fn fill_onset<'a>(
         → OnsetFilled s (now (rows .exit)) (now (pairs .exit)))
         ⌝ }
 {
+    if from == 0 {
+        return;
+    }
     let mut best = [0; BEST_CELLS];
     let mut l = length_count(plan);
     while 0 < l {
@@ -261,7 +266,7 @@ fn fill_onset<'a>(
     }
 }
 
-// Stores the rows of all intervals of a bar that have one onset, from carry state 0, where that is worth it.
+// Stores the rows of all intervals of a bar that have one onset, not the first of the piece, from carry state 0, where that is worth it.
 pub fn fill_bar<'a>(
     plan: &'a Plan,
     units: &'a PackedUnits,

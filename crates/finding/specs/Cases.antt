@@ -1,5 +1,6 @@
--- The seven cases of document 01 ("The sheet S and its neighbours") that finding answers, and what is computed of them: the required
--- lengths, the price of the bytes, and that no other tree totals as little. `FindingCases.all-answered` says what this means of finding.
+-- The seven cases of document 01 ("The sheet S and its neighbours") that finding answers, as document 02 leaves them, with two of rests,
+-- and what is computed of them: the required lengths, the price of the bytes, and that no other tree totals as little.
+-- `FindingCases.all-answered` says what this means of finding.
 use Prim.Native.Nat.{ℕ}
 use mathlib.Core.Path.{_≡_, refl}
 use mathlib.Core.Bool.{Bool, true, false, cond, _&&_}
@@ -34,16 +35,22 @@ case t cells room o bs = record { text = t; cells = cells; room = room; gives = 
 abbrev later : List ℕ → List ℕ
 later t = grammarS ++ headS ++ textOf "4E" ++ t ++ textOf "3E40\n"
 
--- nodes, R, D and total, and the tree; or refusal 11 with line 0
+-- with a rest of the halves as rule 4, and an onset at 1,000,000
+abbrev rested : List ℕ
+rested = grammarS ++ textOf "4C01000204\n" ++ headS ++ textOf "4E000F42403E40\n"
+
+-- nodes, R, D and total, and the tree; or refusal 11 with line 0. The last two open with a rest: half a bar, and a bar
 abbrev pub cases : List Case
 cases =
     case S 464 161 (priced 3 8 1008 1088) (1 ∷ 3 ∷ 3 ∷ [])
     ∷ case (later (textOf "0007A11F")) 240 81 (priced 1 1 5039 5049) (0 ∷ [])
     ∷ case (later (textOf "0007A120")) 240 81 (priced 1 1 5040 5050) (0 ∷ [])
-    ∷ case (later (textOf "000F423F")) 240 81 (priced 3 9 1 91) (1 ∷ 2 ∷ 3 ∷ [])
-    ∷ case (later (textOf "000F4240")) 240 81 (priced 3 9 0 90) (1 ∷ 2 ∷ 3 ∷ [])
+    ∷ case (later (textOf "000F423F")) 240 81 (priced 1 1 10079 10089) (0 ∷ [])
+    ∷ case (later (textOf "000F4240")) 240 81 (refused 11 0) []
     ∷ case (grammarS ++ textOf "4502001E8480\n4E000000003C40\n4E001E847F3E40\n") 480 162 (priced 2 2 1 21) (0 ∷ 0 ∷ [])
     ∷ case (grammarS ++ headS ++ textOf "4E000000003C40\n4E000000003E40\n") 464 161 (refused 11 0) []
+    ∷ case rested 240 81 (priced 3 9 0 90) (1 ∷ 4 ∷ 3 ∷ [])
+    ∷ case (grammarS ++ textOf "4C00000704\n4502001E8480\n4E001E84803C40\n") 256 82 (priced 2 8 0 80) (4 ∷ 0 ∷ [])
     ∷ []
 
 -- ---- the test of a case

@@ -1,4 +1,4 @@
--- The seven cases as a theorem about the contract itself: whatever meets `Finds` on the text, with slices of the required lengths or longer
+-- The cases as a theorem about the contract itself: whatever meets `Finds` on the text, with slices of the required lengths or longer
 -- and of any content, gives the paper's values. Each of these sheets has at most one least tree, so the answer and both slices are given
 -- whole.
 --
@@ -203,7 +203,7 @@ each : (cs : List Case) → map holds cs ≡ replicate (length cs) true → Ever
 each [] e = tt
 each (c ∷ cs) e = (case-answered c (head-eq-of-cons-eq e), each cs (tail-eq-of-cons-eq e))
 
--- the seven
+-- all of them
 pub all-answered : Every Answers cases
 all-answered = each cases all-computed
 

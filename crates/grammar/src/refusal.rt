@@ -3,6 +3,7 @@ ghost use mathlib.Core.Path.{_≡_};
 ghost use Prim.Native.Nat.{_≤_};
 ghost use lib.Dec.{ltb};
 ghost use Rattle.sheet.specs.Reading.{demand, headRefusal, divisionRefusal, leafRefusal, ruleRefusal, allBelow, bytesFrom};
+use sheet::KIND_MOST;
 use sheet::Line;
 use sheet::PARTS_MOST;
 use sheet::RULES_MOST;
@@ -86,7 +87,7 @@ fn leaf_refusal(q: u8, count: usize, l: Line) -> u8
     if q <= head {
         return 5;
     }
-    if 3 < n {
+    if KIND_MOST < n {
         return 5;
     }
     if RULES_MOST <= count {

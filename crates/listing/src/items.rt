@@ -1,4 +1,5 @@
-// The items that are still to be derived, and what a rule makes of the next one, as document 01's section "Valid trees" has it.
+// The items that are still to be derived, and what a rule makes of the next one, as document 01's section "Valid trees" and document 02
+// have it.
 ghost use Prim.Native.Nat.{_≤_, _<_};
 use case_text::least;
 use case_text::wide;
@@ -50,8 +51,14 @@ fn twice(n: u32) -> u64
     2 * (n as u64)
 }
 
-// n of the leaf rule where so many onsets are placed: the number itself up to 2, and 3 for three or more.
-fn kind_of(placed: usize) -> u8 {
+// n of the leaf rule at a left bound where so many onsets are placed: the number itself up to 2, and 3 for three or more. With none it is 4
+// where the first onset of the piece is not before the bound.
+fn kind_of(units: &PackedUnits, left: Units, placed: usize) -> u8 {
+    if placed == 0 {
+        if left.0 <= units[0] {
+            return 4;
+        }
+    }
     if placed < 3 {
         return placed as u8;
     }
@@ -91,7 +98,7 @@ fn leaf_move(units: &PackedUnits, over: Interval, n: u8, carried: u8) -> Move {
     if 3 < late {
         return Move::Refused;
     }
-    if n != kind_of((carried as usize) + here.early) {
+    if n != kind_of(units, over.left, (carried as usize) + here.early) {
         return Move::Refused;
     }
     Move::Leaf { late: late as u8 }

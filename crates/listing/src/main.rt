@@ -1,6 +1,6 @@
 // Compares finding with a search by listing all trees, on small sheets that are read from standard input. Every valid tree of a sheet is
-// made by expanding every item with every rule, in document 01's words and with nothing taken from the search; each is priced. Printed:
-// the number of trees, the least total, and whether finding gives one of the trees with that total, or 11 where there is none.
+// made by expanding every item with every rule, in the words of documents 01 and 02 and with nothing taken from the search; each is priced.
+// Printed: the number of trees, the least total, and whether finding gives one of the trees with that total, or 11 where there is none.
 ghost use mathlib.Core.Path.{_≡_};
 ghost use lib.ListN.{length};
 use case_text::behind;

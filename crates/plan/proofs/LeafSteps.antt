@@ -19,6 +19,7 @@ use Rattle.trees.specs.ValidTrees.{ruleAt}
 use Rattle.trees.specs.LeastTotal.{NONE}
 use Rattle.expansions.specs.Tables.{unpackedOf, cellOf, RulesHeld}
 use Rattle.expansions.specs.RuleCells.{leaf-rule, DivisionRule, division-rule}
+use Rattle.plan.specs.Layout.{kinds, leafCells}
 use Rattle.plan.specs.Leaves.{ruleCount, leafCost}
 use Rattle.plan.specs.Packed.{packed, packed-cap, packed-next, packedLeaf}
 use Rattle.plan.proofs.RuleSteps.{cell-read}
@@ -40,11 +41,12 @@ division-cost a q n o h w k (inl (e, z)) = rw e
 division-cost a q n o h w k (inr (ks, e, z)) = rw e
 
 -- a good grammar's leaf has a place in the table
-pub leaf-place : (s : Sheet) → GoodRules (s .grammar) → (r h w n : ℕ) → ruleAt s r ≡ some (leaf h w n) → (4 * h + n < 64) × (n < 4)
+pub leaf-place : (s : Sheet) → GoodRules (s .grammar) → (r h w n : ℕ) → ruleAt s r ≡ some (leaf h w n)
+    → (kinds * h + n < leafCells) × (n < kinds)
 leaf-place s good r h w n e =
     let g : GoodLeaf (s .grammar .nonterminals) h w n =
     every-some (GoodRule (s .grammar .nonterminals)) (s .grammar .rules) r (leaf h w n) (good .rules) e in
-    (omega (arith, g .head, g .three, good .sixteen), omega (arith, g .three))
+    (omega (arith, g .head, g .kind, good .sixteen), omega (arith, g .kind))
 
 -- ---- one rule more
 
@@ -54,9 +56,9 @@ idle-packed cap f i e = omega (arith, packed-next cap f i, packed-cap cap f i)
 
 module _ (s : Sheet) where
   -- no rule has been looked at
-  pub packed-none : PackedUpto s (replicate 64 (64 * NONE)) 0
+  pub packed-none : PackedUpto s (replicate leafCells (64 * NONE)) 0
   unfolding lowest
-  packed-none q n h k = getD-replicate 64 (4 * q + n) (64 * NONE) 0 (omega arith)
+  packed-none q n h k = getD-replicate leafCells (kinds * q + n) (64 * NONE) 0 (omega arith)
 
   -- every rule has
   pub packed-all : (leaves : List ℕ) (i : ℕ) → PackedUpto s leaves i → i ≡ ruleCount s → PackedLeaves s leaves
@@ -72,10 +74,10 @@ module _ (s : Sheet) where
         ∙ sym (idle-packed NONE (λ r. leafCost (s .grammar .multiplier) q n (ruleAt s r)) i (division-cost _ q n (ruleAt s i) h w k d))
 
     -- a leaf, which may lower the cell at its place and leaves the others
-    lower : (more : List ℕ) (h w m : ℕ) → ruleAt s i ≡ some (leaf h w m) → m < 4
-        → getD more (4 * h + m) 0 ≡ min (getD leaves (4 * h + m) 0) (64 * (s .grammar .multiplier * w) + i)
-        → ((j : ℕ) → (4 * h + m ≡ j → ⊥) → getD more j 0 ≡ getD leaves j 0) → PackedUpto s more (i + 1)
-    lower more h w m e four here there q n l k = elim (ℕ-discrete (4 * h + m) (4 * q + n)) [
+    lower : (more : List ℕ) (h w m : ℕ) → ruleAt s i ≡ some (leaf h w m) → m < kinds
+        → getD more (kinds * h + m) 0 ≡ min (getD leaves (kinds * h + m) 0) (64 * (s .grammar .multiplier * w) + i)
+        → ((j : ℕ) → (kinds * h + m ≡ j → ⊥) → getD more j 0 ≡ getD leaves j 0) → PackedUpto s more (i + 1)
+    lower more h w m e few here there q n l k = elim (ℕ-discrete (kinds * h + m) (kinds * q + n)) [
       | yes same ↦
           let hq : h ≡ q = omega arith in
           let mn : m ≡ n = omega arith in
@@ -87,7 +89,7 @@ module _ (s : Sheet) where
           ∙ ap (λ (x : ℕ). min (packed NONE f i) (64 * x + i)) (sym cost) ∙ sym (packed-next NONE f i)
       | no apart ↦
           let f : ℕ → ℕ = λ r. leafCost (s .grammar .multiplier) q n (ruleAt s r) in
-          there (4 * q + n) apart ∙ so-far q n l k
+          there (kinds * q + n) apart ∙ so-far q n l k
           ∙ sym (idle-packed NONE f i (ap (leafCost (s .grammar .multiplier) q n) e
           ∙ other-cost (s .grammar .multiplier) h w m q n (λ g. apart (omega (arith, g .0, g .1)))))
     ]
@@ -111,21 +113,21 @@ module _ (rules : List ℕ) (a : ℕ) (leaves : List ℕ) (i : ℕ) (so-far : Lo
     leaf-there s t = leaf-rule (ruleAt s i) h w n (cell s t _ e)
 
     -- no good grammar has this leaf
-    pub lowered-past : 64 ≤ 4 * h + n → Lowered rules a leaves (i + 1)
+    pub lowered-past : leafCells ≤ kinds * h + n → Lowered rules a leaves (i + 1)
     lowered-past past s t m = absurd (omega (arith, past, leaf-place s (t .good) i h w n (leaf-there s t) .0))
 
     -- it costs no less
-    pub lowered-kept : getD leaves (4 * h + n) 0 ≤ 64 * (a * w) + i → Lowered rules a leaves (i + 1)
+    pub lowered-kept : getD leaves (kinds * h + n) 0 ≤ 64 * (a * w) + i → Lowered rules a leaves (i + 1)
     lowered-kept more s t m =
         let r = leaf-there s t in
         lower s leaves i (so-far s t m) leaves h w n r (leaf-place s (t .good) i h w n r .1)
         (rw (← m) (omega (arith, more))) (λ j f. refl)
 
     -- it costs less
-    pub lowered-set : length leaves ≡ 64 → 4 * h + n < 64 → 64 * (a * w) + i < getD leaves (4 * h + n) 0
-        → Lowered rules a (set leaves (4 * h + n) (64 * (a * w) + i)) (i + 1)
+    pub lowered-set : length leaves ≡ leafCells → kinds * h + n < leafCells → 64 * (a * w) + i < getD leaves (kinds * h + n) 0
+        → Lowered rules a (set leaves (kinds * h + n) (64 * (a * w) + i)) (i + 1)
     lowered-set size within less s t m =
         let r = leaf-there s t in
-        lower s leaves i (so-far s t m) (set leaves (4 * h + n) (64 * (a * w) + i)) h w n r (leaf-place s (t .good) i h w n r .1)
-        (getD-set-same leaves (4 * h + n) (64 * (a * w) + i) 0 (omega arith) ∙ rw (← m) (omega (arith, less)))
-        (λ j f. getD-set-other leaves (4 * h + n) j (64 * (a * w) + i) 0 (λ g. f (sym g)))
+        lower s leaves i (so-far s t m) (set leaves (kinds * h + n) (64 * (a * w) + i)) h w n r (leaf-place s (t .good) i h w n r .1)
+        (getD-set-same leaves (kinds * h + n) (64 * (a * w) + i) 0 (omega arith) ∙ rw (← m) (omega (arith, less)))
+        (λ j f. getD-set-other leaves (kinds * h + n) j (64 * (a * w) + i) 0 (λ g. f (sym g)))

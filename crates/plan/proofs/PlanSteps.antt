@@ -21,6 +21,8 @@ use Rattle.sizes.specs.Sizes.{lengthsOf}
 use Rattle.sizes.specs.Held.{lengthTable}
 use Rattle.sizes.specs.SizesLaws.{count-length}
 use Rattle.expansions.specs.Tables.{unpackedOf, PackedRules, RulesHeld}
+use Rattle.plan.specs.Layout.{kinds, childrenAt, leavesAt, lengthsAt, partLengthsAt, firstDivisionsAt, lastDivisionsAt}
+use Rattle.plan.specs.Layout.{savingsAt, multiplierAt, nonterminalsAt, lengthCountAt, waysAt, planCells}
 use Rattle.plan.specs.Leaves.{ruleCount}
 use Rattle.plan.specs.Plan.{lengths, lengthAt, PartLength, DivisionsIn, wayCell, WaysOf, Prepared}
 use Rattle.plan.specs.PlanLaws.{lengths-most, length-positive}
@@ -31,10 +33,10 @@ use Rattle.plan.specs.Sections.{FirstDivision, LastDivision, PackedLeave
 module _ (rules children leaves lens : List ℕ) (a heads count n : ℕ) where
   -- the first i cells
   pub record Cells (cells : List ℕ) (i : ℕ) : Type 0 where
-    pub size : length cells ≡ 3055
+    pub size : length cells ≡ planCells
     pub each : (j : ℕ) → j < i → Cell rules children leaves lens a heads count n j (getD cells j 0)
 
-  pub cells-next : (cells : List ℕ) (i x : ℕ) → Cells cells i → i < 3055 → Cell rules children leaves lens a heads count n i x
+  pub cells-next : (cells : List ℕ) (i x : ℕ) → Cells cells i → i < planCells → Cell rules children leaves lens a heads count n i x
       → Cells (set cells i x) (i + 1)
   cells-next cells i x so-far within here =
       record {
@@ -155,7 +157,7 @@ module _ (s : Sheet) (rules children leaves lens : List ℕ) (a q count n : ℕ)
       ]
 
   -- the ways of a division
-  ways-of : (cells : List ℕ) → ((j : ℕ) → j < 3055 → Cell rules children leaves lens a q count n j (getD cells j 0)) → (r j h w : ℕ)
+  ways-of : (cells : List ℕ) → ((j : ℕ) → j < planCells → Cell rules children leaves lens a q count n j (getD cells j 0)) → (r j h w : ℕ)
       (ks : List ℕ) → ruleAt s r ≡ some (division h w ks) → j < length ks → WaysOf s cells r ks j
   ways-of cells at r j h w ks e within =
       record {
@@ -172,32 +174,34 @@ module _ (s : Sheet) (rules children leaves lens : List ℕ) (a q count n : ℕ)
 
       way : (i : ℕ) → i < 3 → WayIs s r ks j i (wayCell cells r j i)
       way i l =
-          at (1519 + 3 * (8 * r + j) + i) (omega (arith, below, eight)) .way r j i eight l refl s
+          at (waysAt + 3 * (8 * r + j) + i) (omega (arith, below, eight)) .way r j i eight l refl s
           (record { good = t .good; rules = t .rules-are })
           (record { good = t .good; children-are = t .children-are; leaves-are = t .leaves-are }) (t .a-is) h w ks e
 
-  pub prepared : (cells : List ℕ) (i : ℕ) → Cells rules children leaves lens a q count n cells i → 3055 ≤ i → Prepared s cells
+  pub prepared : (cells : List ℕ) (i : ℕ) → Cells rules children leaves lens a q count n cells i → planCells ≤ i → Prepared s cells
   prepared cells i all past =
       record {
         good = t .good;
         rules = λ r l. ap unpackedOf (of r (omega arith) .rule l) ∙ t .rules-are r l;
         child = λ r j l m.
-            of (64 + 8 * r + j) (omega arith) .child (8 * r + j) (omega arith) (omega arith)
+            of (childrenAt + 8 * r + j) (omega arith) .child (8 * r + j) (omega arith) (omega arith)
             ∙ ap (λ (xs : List ℕ). getD xs (8 * r + j) 0) (t .children-are);
-        leaves = λ p m l k. of (576 + 4 * p + m) (omega arith) .leaf (4 * p + m) (omega arith) (omega arith) ∙ t .leaves-are p m l k;
-        length-at = λ l h. of (640 + l) (omega arith) .length l h refl ∙ lens-at l h;
-        part = λ l k h m. part-of l k _ h (of (724 + 9 * l + k) (omega arith) .part l k h m refl);
+        leaves = λ p m l k.
+            of (leavesAt + kinds * p + m) (omega arith) .leaf (kinds * p + m) (omega arith) (omega arith) ∙ t .leaves-are p m l k;
+        length-at = λ l h. of (lengthsAt + l) (omega arith) .length l h refl ∙ lens-at l h;
+        part = λ l k h m. part-of l k _ h (of (partLengthsAt + 9 * l + k) (omega arith) .part l k h m refl);
         divisions = λ p h.
-            divisions-of p _ _ (of (1480 + p) (omega arith) .first p h refl) (of (1496 + p) (omega arith) .last p h refl);
-        saved-are = λ c h. at (1512 + c) (omega arith) .saved c h refl s (t .good) (t .leaves-are) (t .q-is);
-        multiplier = at 1516 (omega arith) .multiplier refl ∙ t .a-is;
-        nonterminals = at 1517 (omega arith) .nonterminals refl ∙ t .q-is;
-        lengths-are = at 1518 (omega arith) .lengths refl ∙ count-lengths;
+            divisions-of p _ _ (of (firstDivisionsAt + p) (omega arith) .first p h refl)
+            (of (lastDivisionsAt + p) (omega arith) .last p h refl);
+        saved-are = λ c h. at (savingsAt + c) (omega arith) .saved c h refl s (t .good) (t .leaves-are) (t .q-is);
+        multiplier = at multiplierAt (omega arith) .multiplier refl ∙ t .a-is;
+        nonterminals = at nonterminalsAt (omega arith) .nonterminals refl ∙ t .q-is;
+        lengths-are = at lengthCountAt (omega arith) .lengths refl ∙ count-lengths;
         ways = ways-of cells at;
       }
     where
-      at : (j : ℕ) → j < 3055 → Cell rules children leaves lens a q count n j (getD cells j 0)
+      at : (j : ℕ) → j < planCells → Cell rules children leaves lens a q count n j (getD cells j 0)
       at j l = all .each j (omega arith)
 
-      of : (j : ℕ) → j < 1512 → Section rules children leaves lens count n j (getD cells j 0)
+      of : (j : ℕ) → j < savingsAt → Section rules children leaves lens count n j (getD cells j 0)
       of j l = at j (omega arith) .section l

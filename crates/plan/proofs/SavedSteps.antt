@@ -9,6 +9,7 @@ use Rattle.sheet.specs.Sheet.{Sheet}
 use Rattle.sheet.specs.Good.{GoodRules}
 use Rattle.trees.specs.ValidTrees.{token}
 use Rattle.sizes.specs.Sizes.{largest}
+use Rattle.plan.specs.Layout.{kinds}
 use Rattle.plan.specs.Leaves.{leastLeaf}
 use Rattle.plan.specs.Packed.{packed-leaf-is}
 use Rattle.plan.specs.Plan.{savedAt, savedBy}
@@ -25,13 +26,13 @@ unfolding largest
 largest-next f i m x y em ex ey = rw add-one (omega (arith, em, ex, ey))
 
 -- the quotient of a packed leaf cell
-pub packed-cell-least : (s : Sheet) → GoodRules (s .grammar) → (leaves : List ℕ) → PackedLeaves s leaves → (q n : ℕ) → q < 16 → n < 4
-    → getD leaves (4 * q + n) 0 / 64 ≡ leastLeaf s q n
+pub packed-cell-least : (s : Sheet) → GoodRules (s .grammar) → (leaves : List ℕ) → PackedLeaves s leaves → (q n : ℕ) → q < 16 → n < kinds
+    → getD leaves (kinds * q + n) 0 / 64 ≡ leastLeaf s q n
 packed-cell-least s good leaves t q n hq hn = ap (_/ 64) (t q n hq hn) ∙ packed-leaf-is s good q n
 
 -- the cells of two kinds
 pub saved-cell : (s : Sheet) → GoodRules (s .grammar) → (leaves : List ℕ) → PackedLeaves s leaves → (q c e j k : ℕ) → q < 16
-    → j ≡ token e 1 → k ≡ token (c + e) 1 → getD leaves (4 * q + j) 0 / 64 - getD leaves (4 * q + k) 0 / 64 ≡ savedAt s q c e
+    → j ≡ token e 1 → k ≡ token (c + e) 1 → getD leaves (kinds * q + j) 0 / 64 - getD leaves (kinds * q + k) 0 / 64 ≡ savedAt s q c e
 saved-cell s good leaves t q c e j k hq ej ek =
     omega (
       arith,

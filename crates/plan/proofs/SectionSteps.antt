@@ -5,6 +5,8 @@ use mathlib.Core.List.{List}
 use native.Mathlib.Nat.{mul-le-mul}
 use native.Mathlib.Omega.{arith}
 use lib.ListN.{getD}
+use Rattle.plan.specs.Layout.{childrenAt, leavesAt, lengthsAt, partLengthsAt, firstDivisionsAt, lastDivisionsAt}
+use Rattle.plan.specs.Layout.{savingsAt, multiplierAt, waysAt}
 use Rattle.plan.specs.Sections.{FirstDivision, LastDivision, MostSaved, PartAmong, LengthCells, WayOf, Section, Cell}
 
 -- ---- the place of a part
@@ -41,7 +43,7 @@ module _ (lens : List ℕ) (count l k : ℕ) (t : LengthCells lens count) (past 
 -- ---- a cell, by tables
 
 module _ (rules children leaves lens : List ℕ) (count n i : ℕ) where
-  pub at-child : 64 ≤ i → i < 576 → Section rules children leaves lens count n i (getD children (i - 64) 0)
+  pub at-child : childrenAt ≤ i → i < leavesAt → Section rules children leaves lens count n i (getD children (i - childrenAt) 0)
   at-child h m =
       record {
         rule = λ l. absurd (omega arith);
@@ -53,7 +55,7 @@ module _ (rules children leaves lens : List ℕ) (count n i : ℕ) where
         last = λ j l e. absurd (omega arith);
       }
 
-  pub at-leaf : 576 ≤ i → i < 640 → Section rules children leaves lens count n i (getD leaves (i - 576) 0)
+  pub at-leaf : leavesAt ≤ i → i < lengthsAt → Section rules children leaves lens count n i (getD leaves (i - leavesAt) 0)
   at-leaf h m =
       record {
         rule = λ l. absurd (omega arith);
@@ -65,7 +67,7 @@ module _ (rules children leaves lens : List ℕ) (count n i : ℕ) where
         last = λ j l e. absurd (omega arith);
       }
 
-  pub at-length : 640 ≤ i → i < 724 → Section rules children leaves lens count n i (getD lens (i - 640) 0)
+  pub at-length : lengthsAt ≤ i → i < partLengthsAt → Section rules children leaves lens count n i (getD lens (i - lengthsAt) 0)
   at-length h m =
       record {
         rule = λ l. absurd (omega arith);
@@ -77,8 +79,8 @@ module _ (rules children leaves lens : List ℕ) (count n i : ℕ) where
         last = λ j l e. absurd (omega arith);
       }
 
-  pub at-part : (x : ℕ) → 724 ≤ i → i < 1480 → PartAmong lens count ((i - 724) / 9) ((i - 724) % 9) x
-      → Section rules children leaves lens count n i x
+  pub at-part : (x : ℕ) → partLengthsAt ≤ i → i < firstDivisionsAt
+      → PartAmong lens count ((i - partLengthsAt) / 9) ((i - partLengthsAt) % 9) x → Section rules children leaves lens count n i x
   at-part x h m p =
       record {
         rule = λ l. absurd (omega arith);
@@ -90,7 +92,8 @@ module _ (rules children leaves lens : List ℕ) (count n i : ℕ) where
         last = λ j l e. absurd (omega arith);
       }
 
-  pub at-first : (x : ℕ) → 1480 ≤ i → i < 1496 → FirstDivision rules n (i - 1480) x → Section rules children leaves lens count n i x
+  pub at-first : (x : ℕ) → firstDivisionsAt ≤ i → i < lastDivisionsAt → FirstDivision rules n (i - firstDivisionsAt) x
+      → Section rules children leaves lens count n i x
   at-first x h m p =
       record {
         rule = λ l. absurd (omega arith);
@@ -102,7 +105,8 @@ module _ (rules children leaves lens : List ℕ) (count n i : ℕ) where
         last = λ j l e. absurd (omega arith);
       }
 
-  pub at-last : (x : ℕ) → 1496 ≤ i → i < 1512 → LastDivision rules n (i - 1496) x → Section rules children leaves lens count n i x
+  pub at-last : (x : ℕ) → lastDivisionsAt ≤ i → i < savingsAt → LastDivision rules n (i - lastDivisionsAt) x
+      → Section rules children leaves lens count n i x
   at-last x h m p =
       record {
         rule = λ l. absurd (omega arith);
@@ -117,7 +121,8 @@ module _ (rules children leaves lens : List ℕ) (count n i : ℕ) where
 -- ---- a cell behind them
 
 module _ (rules children leaves lens : List ℕ) (a heads count n i : ℕ) where
-  pub at-saved : (x : ℕ) → 1512 ≤ i → i < 1516 → MostSaved leaves heads (i - 1512) x → Cell rules children leaves lens a heads count n i x
+  pub at-saved : (x : ℕ) → savingsAt ≤ i → i < multiplierAt → MostSaved leaves heads (i - savingsAt) x
+      → Cell rules children leaves lens a heads count n i x
   at-saved x h m p =
       record {
         section = λ l. absurd (omega arith);
@@ -128,7 +133,7 @@ module _ (rules children leaves lens : List ℕ) (a heads count n i : ℕ) where
         way = λ r j k l f e. absurd (omega arith);
       }
 
-  pub at-way : (x : ℕ) → 1519 ≤ i → WayOf rules children leaves a ((i - 1519) / 24) ((i - 1519) / 3 % 8) ((i - 1519) % 3) x
+  pub at-way : (x : ℕ) → waysAt ≤ i → WayOf rules children leaves a ((i - waysAt) / 24) ((i - waysAt) / 3 % 8) ((i - waysAt) % 3) x
       → Cell rules children leaves lens a heads count n i x
   at-way x h p =
       record {
@@ -138,9 +143,9 @@ module _ (rules children leaves lens : List ℕ) (a heads count n i : ℕ) where
         nonterminals = λ e. absurd (omega arith);
         lengths = λ e. absurd (omega arith);
         way = λ r j k l f e.
-            let at-rule : (i - 1519) / 24 ≡ r = omega arith in
-            let at-part : (i - 1519) / 3 % 8 ≡ j = omega arith in
-            let at-kind : (i - 1519) % 3 ≡ k = omega arith in
+            let at-rule : (i - waysAt) / 24 ≡ r = omega arith in
+            let at-part : (i - waysAt) / 3 % 8 ≡ j = omega arith in
+            let at-kind : (i - waysAt) % 3 ≡ k = omega arith in
             subst (λ (y : ℕ). WayOf rules children leaves a r j y x) at-kind
-            (subst₂ (λ (y z : ℕ). WayOf rules children leaves a y z ((i - 1519) % 3) x) at-rule at-part p);
+            (subst₂ (λ (y z : ℕ). WayOf rules children leaves a y z ((i - waysAt) % 3) x) at-rule at-part p);
       }

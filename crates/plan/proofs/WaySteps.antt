@@ -17,6 +17,7 @@ use Rattle.trees.specs.LeastTotal.{NONE}
 use Rattle.trees.specs.Room.{good-division}
 use Rattle.expansions.specs.Tables.{unpackedOf, cellOf}
 use Rattle.expansions.specs.RuleCells.{leaf≢division}
+use Rattle.plan.specs.Layout.{kinds}
 use Rattle.plan.specs.Leaves.{leastLeaf}
 use Rattle.plan.specs.Ways.{sumTo, sum-next, besideAt, besideSum, beside}
 use Rattle.plan.specs.PlanLaws.{child-in, token-below}
@@ -36,14 +37,14 @@ module _ (leaves : List ℕ) (q i j n : ℕ) where
 
   -- the least leaf of the kind of m placed
   of-kind : (m k : ℕ) → k ≡ token m 1 → (s : Sheet) → GoodRules (s .grammar) → PackedLeaves s leaves → q < 16
-      → getD leaves (4 * q + k) 0 / 64 ≡ leastLeaf s q (token m 1)
+      → getD leaves (kinds * q + k) 0 / 64 ≡ leastLeaf s q (token m 1)
   of-kind m k ek s good t h =
       packed-cell-least s good leaves t q k h (omega (arith, ek, token-below m 1)) ∙ ap (leastLeaf s q) ek
 
-  pub right-behind : (k : ℕ) → k ≡ token n 1 → (i ≡ j → ⊥) → i ≡ j + 1 → PartBeside leaves q i j n (getD leaves (4 * q + k) 0 / 64)
+  pub right-behind : (k : ℕ) → k ≡ token n 1 → (i ≡ j → ⊥) → i ≡ j + 1 → PartBeside leaves q i j n (getD leaves (kinds * q + k) 0 / 64)
   right-behind k ek f e s good t h = rw (ne-eqb i j f, eq-eqb i (j + 1) e) (of-kind n k ek s good t h)
 
-  pub elsewhere : (k : ℕ) → k ≡ token 0 1 → (i ≡ j → ⊥) → (i ≡ j + 1 → ⊥) → PartBeside leaves q i j n (getD leaves (4 * q + k) 0 / 64)
+  pub elsewhere : (k : ℕ) → k ≡ token 0 1 → (i ≡ j → ⊥) → (i ≡ j + 1 → ⊥) → PartBeside leaves q i j n (getD leaves (kinds * q + k) 0 / 64)
   elsewhere k ek f g s good t h = rw (ne-eqb i j f, ne-eqb i (j + 1) g) (of-kind 0 k ek s good t h)
 
 -- ---- part after part

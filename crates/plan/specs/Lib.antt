@@ -1,3 +1,4 @@
+pub mod Layout
 pub mod Leaves
 pub mod Packed
 pub mod Ways

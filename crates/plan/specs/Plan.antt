@@ -11,6 +11,8 @@ use Rattle.sheet.specs.Held.{partsOf, childCells}
 use Rattle.trees.specs.ValidTrees.{ruleAt, token}
 use Rattle.sizes.specs.Sizes.{largest, lengthsOf, lengthCount}
 use Rattle.expansions.specs.Tables.{PackedRules}
+use Rattle.plan.specs.Layout.{kinds, childrenAt, leavesAt, lengthsAt, partLengthsAt, firstDivisionsAt, lastDivisionsAt}
+use Rattle.plan.specs.Layout.{savingsAt, multiplierAt, nonterminalsAt, lengthCountAt, waysAt}
 use Rattle.plan.specs.declared.Shape.{Shape}
 use Rattle.plan.specs.declared.Split.{Split}
 unfoldable pub use Rattle.plan.specs.Leaves.{ruleCount, leafCost, leastLeaf}
@@ -50,38 +52,38 @@ pub record DivisionsIn (s : Sheet) (q from to : ℕ) : Type 0 where
 -- ---- where it stands
 
 abbrev pub childCell : List ℕ → (r j : ℕ) → ℕ
-childCell plan r j = getD plan (64 + 8 * r + j) 0
+childCell plan r j = getD plan (childrenAt + 8 * r + j) 0
 
 -- a packed cell: 64 times the least cost, and its rule
 abbrev pub leafCell : List ℕ → (q n : ℕ) → ℕ
-leafCell plan q n = getD plan (576 + 4 * q + n) 0
+leafCell plan q n = getD plan (leavesAt + kinds * q + n) 0
 
 abbrev pub lengthCell : List ℕ → ℕ → ℕ
-lengthCell plan l = getD plan (640 + l) 0
+lengthCell plan l = getD plan (lengthsAt + l) 0
 
 abbrev pub partCell : List ℕ → (l k : ℕ) → ℕ
-partCell plan l k = getD plan (724 + 9 * l + k) 0
+partCell plan l k = getD plan (partLengthsAt + 9 * l + k) 0
 
 abbrev pub firstCell : List ℕ → ℕ → ℕ
-firstCell plan q = getD plan (1480 + q) 0
+firstCell plan q = getD plan (firstDivisionsAt + q) 0
 
 abbrev pub lastCell : List ℕ → ℕ → ℕ
-lastCell plan q = getD plan (1496 + q) 0
+lastCell plan q = getD plan (lastDivisionsAt + q) 0
 
 abbrev pub savedCell : List ℕ → ℕ → ℕ
-savedCell plan c = getD plan (1512 + c) 0
+savedCell plan c = getD plan (savingsAt + c) 0
 
 abbrev pub multiplierCell : List ℕ → ℕ
-multiplierCell plan = getD plan 1516 0
+multiplierCell plan = getD plan multiplierAt 0
 
 abbrev pub nonterminalsCell : List ℕ → ℕ
-nonterminalsCell plan = getD plan 1517 0
+nonterminalsCell plan = getD plan nonterminalsAt 0
 
 abbrev pub lengthsCell : List ℕ → ℕ
-lengthsCell plan = getD plan 1518 0
+lengthsCell plan = getD plan lengthCountAt 0
 
 abbrev pub wayCell : List ℕ → (r j i : ℕ) → ℕ
-wayCell plan r j i = getD plan (1519 + 3 * (8 * r + j) + i) 0
+wayCell plan r j i = getD plan (waysAt + 3 * (8 * r + j) + i) 0
 
 -- what is added to the cells of part j of rule r where only that part has an onset: to cell 0 to come to cell 0 of the whole, to cell 1 to
 -- come to cell 0, and to cell 1 to come to cell 1
@@ -95,7 +97,7 @@ pub record Prepared (s : Sheet) (plan : List ℕ) : Type 0 where
   pub good : GoodRules (s .grammar)
   pub rules : PackedRules (s .grammar) plan
   pub child : (r j : ℕ) → r < 64 → j < 8 → childCell plan r j ≡ getD (childCells (map partsOf (s .grammar .rules))) (8 * r + j) 0
-  pub leaves : (q n : ℕ) → q < 16 → n < 4 → leafCell plan q n ≡ packedLeaf s q n
+  pub leaves : (q n : ℕ) → q < 16 → n < kinds → leafCell plan q n ≡ packedLeaf s q n
   pub length-at : (l : ℕ) → l < 84 → lengthCell plan l ≡ lengthAt s l
   pub part : (l k : ℕ) → l < 84 → k < 9 → PartLength s l k (partCell plan l k)
   pub divisions : (q : ℕ) → q < 16 → DivisionsIn s q (firstCell plan q) (lastCell plan q)

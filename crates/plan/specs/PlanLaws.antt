@@ -25,6 +25,7 @@ use Rattle.sizes.specs.Sizes.{hasArity, Length, part, lengthsOf}
 use Rattle.sizes.specs.SizesLaws.{length-divides, count-length, whole-first, length-count-most, lengths-listed}
 use Rattle.sizes.specs.Divisors.{positive-left, positive-right}
 use Rattle.sizes.specs.Members.{place-of}
+use Rattle.plan.specs.Layout.{kinds}
 use Rattle.plan.specs.Leaves.{ruleCount, leafCost, leastLeaf}
 use Rattle.plan.specs.Packed.{packed-leaf-most, packed-leaf-is}
 use Rattle.plan.specs.Ways.{beside}
@@ -75,7 +76,7 @@ module _ (s : Sheet) where
 -- ---- the cells of leaves and of ways
 
 module _ (s : Sheet) (plan : List ℕ) (p : Prepared s plan) where
-  module _ (q n : ℕ) (hq : q < 16) (hn : n < 4) where
+  module _ (q n : ℕ) (hq : q < 16) (hn : n < kinds) where
     -- the quotient is the least cost
     pub leaf-cell-least : leafCell plan q n / 64 ≡ leastLeaf s q n
     leaf-cell-least = ap (_/ 64) (p .leaves q n hq hn) ∙ packed-leaf-is s (p .good) q n
@@ -107,11 +108,19 @@ module _ (s : Sheet) (plan : List ℕ) (p : Prepared s plan) where
 
 -- ---- token kinds
 
-pub token-below : (e b : ℕ) → token e b < 4
-token-below zero b = omega arith
+pub token-below : (e b : ℕ) → token e b < kinds
+token-below zero zero = omega arith
+token-below zero (suc b) = omega arith
 token-below (suc zero) b = omega arith
 token-below (suc (suc zero)) b = omega arith
 token-below (suc (suc (suc e))) b = omega arith
+
+-- with an onset before the leaf it is no rest
+pub token-sounds : (e : ℕ) → token e 1 < 4
+token-sounds zero = omega arith
+token-sounds (suc zero) = omega arith
+token-sounds (suc (suc zero)) = omega arith
+token-sounds (suc (suc (suc e))) = omega arith
 
 -- ---- the part of a length
 

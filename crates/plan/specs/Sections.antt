@@ -13,19 +13,21 @@ use Rattle.sheet.specs.Held.{partsOf, childCells}
 use Rattle.trees.specs.ValidTrees.{ruleAt, token}
 use Rattle.trees.specs.LeastTotal.{NONE}
 use Rattle.expansions.specs.Tables.{RulesHeld}
+use Rattle.plan.specs.Layout.{kinds, leafCells, childrenAt, leavesAt, lengthsAt, partLengthsAt, firstDivisionsAt}
+use Rattle.plan.specs.Layout.{lastDivisionsAt, savingsAt, multiplierAt, nonterminalsAt, lengthCountAt, waysAt}
 use Rattle.plan.specs.Leaves.{leafCost, leastLeaf}
 use Rattle.plan.specs.Packed.{packed, packedLeaf}
 use Rattle.plan.specs.Ways.{beside, oneToZero, oneToOne}
 use Rattle.plan.specs.Plan.{savedBy}
 
--- the packed leaf cells, four places a nonterminal
+-- the packed leaf cells, a place for each kind of a nonterminal
 abbrev pub PackedLeaves : Sheet → List ℕ → Type 0
-PackedLeaves s leaves = (q n : ℕ) → q < 16 → n < 4 → getD leaves (4 * q + n) 0 ≡ packedLeaf s q n
+PackedLeaves s leaves = (q n : ℕ) → q < 16 → n < kinds → getD leaves (kinds * q + n) 0 ≡ packedLeaf s q n
 
 -- the same of the first i rules
 abbrev pub PackedUpto : Sheet → List ℕ → ℕ → Type 0
 PackedUpto s leaves i =
-    (q n : ℕ) → q < 16 → n < 4 → getD leaves (4 * q + n) 0 ≡ packed NONE (λ r. leafCost (s .grammar .multiplier) q n (ruleAt s r)) i
+    (q n : ℕ) → q < 16 → n < kinds → getD leaves (kinds * q + n) 0 ≡ packed NONE (λ r. leafCost (s .grammar .multiplier) q n (ruleAt s r)) i
 
 -- of the first `count` cells, h is the place of one that is a k-th of the cell at l; where there is none, h is past them
 pub record PartAmong (lens : List ℕ) (count l k h : ℕ) : Type 0 where
@@ -100,18 +102,18 @@ WayOf rules children leaves a r j i x =
 -- x stands in cell i of the plan, by tables
 pub record Section (rules children leaves lens : List ℕ) (count n i x : ℕ) : Type 0 where
   pub rule : i < 64 → x ≡ getD rules i 0
-  pub child : (j : ℕ) → j < 512 → i ≡ 64 + j → x ≡ getD children j 0
-  pub leaf : (j : ℕ) → j < 64 → i ≡ 576 + j → x ≡ getD leaves j 0
-  pub length : (l : ℕ) → l < 84 → i ≡ 640 + l → x ≡ getD lens l 0
-  pub part : (l k : ℕ) → l < 84 → k < 9 → i ≡ 724 + 9 * l + k → PartAmong lens count l k x
-  pub first : (q : ℕ) → q < 16 → i ≡ 1480 + q → FirstDivision rules n q x
-  pub last : (q : ℕ) → q < 16 → i ≡ 1496 + q → LastDivision rules n q x
+  pub child : (j : ℕ) → j < 512 → i ≡ childrenAt + j → x ≡ getD children j 0
+  pub leaf : (j : ℕ) → j < leafCells → i ≡ leavesAt + j → x ≡ getD leaves j 0
+  pub length : (l : ℕ) → l < 84 → i ≡ lengthsAt + l → x ≡ getD lens l 0
+  pub part : (l k : ℕ) → l < 84 → k < 9 → i ≡ partLengthsAt + 9 * l + k → PartAmong lens count l k x
+  pub first : (q : ℕ) → q < 16 → i ≡ firstDivisionsAt + q → FirstDivision rules n q x
+  pub last : (q : ℕ) → q < 16 → i ≡ lastDivisionsAt + q → LastDivision rules n q x
 
 -- and in the cells behind them
 pub record Cell (rules children leaves lens : List ℕ) (a heads count n i x : ℕ) : Type 0 where
-  pub section : i < 1512 → Section rules children leaves lens count n i x
-  pub saved : (c : ℕ) → c < 4 → i ≡ 1512 + c → MostSaved leaves heads c x
-  pub multiplier : i ≡ 1516 → x ≡ a
-  pub nonterminals : i ≡ 1517 → x ≡ heads
-  pub lengths : i ≡ 1518 → x ≡ count
-  pub way : (r j k : ℕ) → j < 8 → k < 3 → i ≡ 1519 + 3 * (8 * r + j) + k → WayOf rules children leaves a r j k x
+  pub section : i < savingsAt → Section rules children leaves lens count n i x
+  pub saved : (c : ℕ) → c < 4 → i ≡ savingsAt + c → MostSaved leaves heads c x
+  pub multiplier : i ≡ multiplierAt → x ≡ a
+  pub nonterminals : i ≡ nonterminalsAt → x ≡ heads
+  pub lengths : i ≡ lengthCountAt → x ≡ count
+  pub way : (r j k : ℕ) → j < 8 → k < 3 → i ≡ waysAt + 3 * (8 * r + j) + k → WayOf rules children leaves a r j k x

@@ -1,64 +1,44 @@
 // Filling the plan, once a sheet: first the tables, then each cell from them.
 ghost use mathlib.Core.Path.{_≡_};
 ghost use mathlib.Core.Bool.{false};
-ghost use Prim.Native.Nat.{_-_, _<_, _≤_, max};
+ghost use Prim.Native.Nat.{_<_, _≤_};
 ghost use Rattle.sheet.specs.Sheet.{Grammar, Sheet};
 ghost use Rattle.sheet.specs.Good.{GoodRules};
 ghost use Rattle.sheet.specs.Held.{grammarTable};
-ghost use Rattle.sizes.specs.Sizes.{largest};
 ghost use Rattle.expansions.specs.Tables.{RulesHeld};
-ghost use Rattle.plan.specs.Plan.{ruleCount, savedAt, Prepared};
-ghost use Rattle.plan.specs.Sections.{NotHead, FirstDivision, LastDivision, MostSaved};
-ghost use Rattle.plan.specs.Sections.{PackedLeaves, PartAmong, Small, Wide, LengthCells, Section, Cell};
-use crate::PLAN_CELLS;
+ghost use Rattle.plan.specs.Layout.{savingsAt, planCells};
+ghost use Rattle.plan.specs.Plan.{Prepared};
+ghost use Rattle.plan.specs.Sections.{NotHead, FirstDivision, LastDivision};
+ghost use Rattle.plan.specs.Sections.{PartAmong, Small, Wide, LengthCells, Section, Cell};
 use crate::Plan;
-use crate::ways::LEAF_CELLS;
+use crate::layout::CHILDREN_AT;
+use crate::layout::FIRST_DIVISIONS_AT;
+use crate::layout::LAST_DIVISIONS_AT;
+use crate::layout::LEAVES_AT;
+use crate::layout::LENGTH_COUNT_AT;
+use crate::layout::LENGTHS_AT;
+use crate::layout::MULTIPLIER_AT;
+use crate::layout::NONTERMINALS_AT;
+use crate::layout::PART_CELLS;
+use crate::layout::PART_LENGTHS_AT;
+use crate::layout::PLAN_CELLS;
+use crate::layout::RULE_WAYS;
+use crate::layout::SAVINGS_AT;
+use crate::layout::WAYS;
+use crate::layout::WAYS_AT;
+use crate::leaves::least_leaves;
+use crate::leaves::saved_by;
 use crate::ways::Leaves;
-use crate::ways::NO_CELL;
 use crate::ways::way_at;
 use expansions::PackedRules;
 use expansions::pack_rules;
 use expansions::rule_at;
-use expansions::token_of;
 use sheet::Children;
 use sheet::GrammarTable;
+use sheet::PARTS_MOST;
 use sheet::Rule;
 use sizes::LengthCells;
 use sizes::lengths;
-
-// The packed cell of the leaf rules of nonterminal q with each n, at 4 × q + n: 64 × the least cost, or the cap, and the first rule that
-// has it.
-fn least_leaves(rules: &PackedRules, a: u16, count: usize) -> Leaves
-    requires { ⌜ count ≤ 64 ⌝ }
-    ensures { λ x. ⌜
-        ((s : Sheet) → RulesHeld s (now (rules .entry)) → a ≡ s .grammar .multiplier → count ≡ ruleCount s → PackedLeaves s x)
-        ⌝ }
-{
-    let mut leaves = [NO_CELL; LEAF_CELLS];
-    let mut r: usize = 0;
-    while r < count {
-        let rule = rule_at(rules, r);
-        let number = r as u64;
-        r += 1;
-        match rule {
-            Rule::Division {
-                head: _,
-                weight: _,
-                arity: _,
-            } => {}
-            Rule::Leaf { head, weight, n } => {
-                let at = 4 * (head as usize) + (n as usize);
-                let cell = 64 * ((a as u64) * (weight as u64)) + number;
-                if at < 64 {
-                    if cell < leaves[at] {
-                        leaves[at] = cell;
-                    }
-                }
-            }
-        }
-    }
-    leaves
-}
 
 // Of the first `count` lengths, the place of the length at l divided by k; `count` where there is none.
 fn part_at(lens: &LengthCells, count: usize, l: usize, k: usize) -> u64
@@ -133,54 +113,6 @@ fn last_of(rules: &PackedRules, n: usize, q: usize) -> u64
     0
 }
 
-// By how much a exceeds b; 0 where it does not.
-fn excess(a: u64, b: u64) -> u64
-    ensures { λ r. ⌜ r ≡ a - b ⌝ }
-{
-    if b < a { a - b } else { 0 }
-}
-
-// The larger of two numbers.
-fn larger(a: u64, b: u64) -> u64
-    ensures { λ r. ⌜ r ≡ max a b ⌝ }
-{
-    if a < b { b } else { a }
-}
-
-// The most that a leaf of nonterminal q with an onset before it is cheaper with c onsets carried in than with none.
-fn saved_at(leaves: &Leaves, q: usize, c: usize) -> u64
-    requires { ⌜ (q < 16) × (c < 4) ⌝ }
-    ensures { λ x. ⌜
-        ((s : Sheet) → GoodRules (s .grammar) → PackedLeaves s (now (leaves .entry)) → x ≡ largest (savedAt s q c) 4)
-        ⌝ }
-{
-    let mut most: u64 = 0;
-    let mut e: usize = 0;
-    while e < 4 {
-        let none = token_of(e, 1) as usize;
-        let some = token_of(c + e, 1) as usize;
-        let x = excess(leaves[4 * q + none] / 64, leaves[4 * q + some] / 64);
-        most = larger(most, x);
-        e += 1;
-    }
-    most
-}
-
-// The most of it, over the nonterminals below `heads`.
-fn saved_by(leaves: &Leaves, heads: usize, c: usize) -> u64
-    requires { ⌜ (heads ≤ 16) × (c < 4) ⌝ }
-    ensures { λ x. ⌜ MostSaved (now (leaves .entry)) heads c x ⌝ }
-{
-    let mut most: u64 = 0;
-    let mut q: usize = 0;
-    while q < heads {
-        let x = saved_at(leaves, q, c);
-        most = larger(most, x);
-        q += 1;
-    }
-    most
-}
-
 // Cell i of the plan's tables. Behind the last length stands 0, so that no part is looked for there.
 fn section_at<'a>(
     rules: &'a PackedRules,
@@ -192,35 +124,35 @@ fn section_at<'a>(
     i: usize,
 ) -> u64
     requires { ⌜
-        (count ≤ 84) × (i < 1512) × Small (now children) × Small (now lens) × LengthCells (now lens) count × (n ≤ 64)
+        (count ≤ 84) × (i < savingsAt) × Small (now children) × Small (now lens) × LengthCells (now lens) count × (n ≤ 64)
         ⌝ }
     ensures { λ x. ⌜
         Section (now (rules .entry)) (now (children .entry)) (now (leaves .entry)) (now (lens .entry)) count n i x
         ⌝ }
 {
-    if i < 64 {
+    if i < CHILDREN_AT {
         return rules[i];
     }
-    if i < 576 {
-        return children[i - 64] as u64;
+    if i < LEAVES_AT {
+        return children[i - CHILDREN_AT] as u64;
     }
-    if i < 640 {
-        return leaves[i - 576];
+    if i < LENGTHS_AT {
+        return leaves[i - LEAVES_AT];
     }
-    if i < 724 {
-        return lens[i - 640] as u64;
+    if i < PART_LENGTHS_AT {
+        return lens[i - LENGTHS_AT] as u64;
     }
-    if 1496 <= i {
-        return last_of(rules, n, i - 1496);
+    if LAST_DIVISIONS_AT <= i {
+        return last_of(rules, n, i - LAST_DIVISIONS_AT);
     }
-    if 1480 <= i {
-        return first_of(rules, n, i - 1480);
+    if FIRST_DIVISIONS_AT <= i {
+        return first_of(rules, n, i - FIRST_DIVISIONS_AT);
     }
-    let j = i - 724;
-    if j / 9 < count {
-        return part_at(lens, count, j / 9, j % 9);
+    let j = i - PART_LENGTHS_AT;
+    if j / PART_CELLS < count {
+        return part_at(lens, count, j / PART_CELLS, j % PART_CELLS);
     }
-    if j % 9 == 0 {
+    if j % PART_CELLS == 0 {
         return 0;
     }
     count as u64
@@ -239,30 +171,38 @@ fn cell_at<'a>(
     i: usize,
 ) -> u64
     requires { ⌜
-        (count ≤ 84) × (i < 3055) × Small (now children) × Small (now lens) × LengthCells (now lens) count × (n ≤ 64)
+        (count ≤ 84) × (i < planCells) × Small (now children) × Small (now lens) × LengthCells (now lens) count × (n ≤ 64)
         × (heads ≤ 16) × Wide (now leaves)
         ⌝ }
     ensures { λ x. ⌜
         Cell (now (rules .entry)) (now (children .entry)) (now (leaves .entry)) (now (lens .entry)) a heads count n i x
         ⌝ }
 {
-    if i < 1512 {
+    if i < SAVINGS_AT {
         return section_at(rules, children, leaves, lens, count, n, i);
     }
-    if i < 1516 {
-        return saved_by(leaves, heads, i - 1512);
+    if i < MULTIPLIER_AT {
+        return saved_by(leaves, heads, i - SAVINGS_AT);
     }
-    if i == 1516 {
+    if i == MULTIPLIER_AT {
         return a as u64;
     }
-    if i == 1517 {
+    if i == NONTERMINALS_AT {
         return heads as u64;
     }
-    if i == 1518 {
+    if i == LENGTH_COUNT_AT {
         return count as u64;
     }
-    let at = i - 1519;
-    way_at(rules, children, leaves, a, at / 24, at / 3 % 8, at % 3)
+    let at = i - WAYS_AT;
+    way_at(
+        rules,
+        children,
+        leaves,
+        a,
+        at / RULE_WAYS,
+        at / WAYS % PARTS_MOST,
+        at % WAYS,
+    )
 }
 
 // The plan of a grammar.

@@ -4,22 +4,38 @@ ghost use mathlib.Core.Path.{_≡_};
 ghost use Prim.Native.Nat.{_+_, _*_, _/_, _<_, _≤_};
 ghost use Rattle.sheet.specs.Sheet.{Sheet};
 ghost use Rattle.trees.specs.ValidTrees.{weightAt};
+ghost use Rattle.plan.specs.Layout.{kinds};
 ghost use Rattle.plan.specs.Plan.{childCell, leafCell, lengthCell, firstCell, lastCell, savedCell, wayCell};
 ghost use Rattle.plan.specs.Plan.{multiplierCell, nonterminalsCell, lengthsCell};
 ghost use Rattle.plan.specs.Plan.{lengths, Prepared, ShapeAt, PartsOf, SplitAt};
 
 mod fill;
+mod layout;
+mod leaves;
 mod ways;
 
 use expansions::unpacked;
 pub use fill::prepare;
+use layout::CHILDREN_AT;
+use layout::FIRST_DIVISIONS_AT;
+use layout::KINDS;
+use layout::LAST_DIVISIONS_AT;
+use layout::LEAVES_AT;
+use layout::LENGTH_COUNT_AT;
+use layout::LENGTHS_AT;
+use layout::MULTIPLIER_AT;
+use layout::NONTERMINALS_AT;
+use layout::PART_CELLS;
+use layout::PART_LENGTHS_AT;
+pub use layout::PLAN_CELLS;
+use layout::SAVINGS_AT;
+use layout::WAYS;
+use layout::WAYS_AT;
+use sheet::PARTS_MOST;
 use sheet::Rule;
 use sheet::Units;
 pub use ways::NO_CELL;
 pub use ways::NONE;
-
-// The cells of the plan.
-pub const PLAN_CELLS: usize = 3055;
 
 // What the functions below read.
 pub type Plan = [u64; PLAN_CELLS];
@@ -41,23 +57,23 @@ pub fn child(plan: &Plan, r: usize, j: usize) -> usize
     requires { ⌜ (r < 64) × (j < 8) ⌝ }
     ensures { λ x. ⌜ x ≡ childCell (now (plan .entry)) r j ⌝ }
 {
-    plan[64 + 8 * r + j] as usize
+    plan[CHILDREN_AT + PARTS_MOST * r + j] as usize
 }
 
 // The packed cell of the leaf rules of nonterminal q with this n: 64 × the least cost, or the cap, and the first rule that has it.
 pub fn leaf_cell(plan: &Plan, q: usize, n: usize) -> u64
-    requires { ⌜ (q < 16) × (n < 4) ⌝ }
+    requires { ⌜ (q < 16) × (n < kinds) ⌝ }
     ensures { λ x. ⌜ x ≡ leafCell (now (plan .entry)) q n ⌝ }
 {
-    plan[576 + 4 * q + n]
+    plan[LEAVES_AT + KINDS * q + n]
 }
 
 // The least cost of a leaf rule of nonterminal q with this n, or the cap.
 pub fn least_leaf(plan: &Plan, q: usize, n: usize) -> u64
-    requires { ⌜ (q < 16) × (n < 4) ⌝ }
+    requires { ⌜ (q < 16) × (n < kinds) ⌝ }
     ensures { λ x. ⌜ x ≡ leafCell (now (plan .entry)) q n / 64 ⌝ }
 {
-    plan[576 + 4 * q + n] / 64
+    plan[LEAVES_AT + KINDS * q + n] / 64
 }
 
 // Where only part j of rule r has an onset, what the other parts and the rule add, packed: to cell 0 of the part to come to cell 0 of the
@@ -66,7 +82,7 @@ pub fn way(plan: &Plan, r: usize, j: usize, i: usize) -> u64
     requires { ⌜ (r < 64) × (j < 8) × (i < 3) ⌝ }
     ensures { λ x. ⌜ x ≡ wayCell (now (plan .entry)) r j i ⌝ }
 {
-    plan[1519 + 3 * (8 * r + j) + i]
+    plan[WAYS_AT + WAYS * (PARTS_MOST * r + j) + i]
 }
 
 // The first rule that is a division of nonterminal q; the number of rules where there is none.
@@ -74,7 +90,7 @@ pub fn first_division(plan: &Plan, q: usize) -> usize
     requires { ⌜ q < 16 ⌝ }
     ensures { λ x. ⌜ x ≡ firstCell (now (plan .entry)) q ⌝ }
 {
-    plan[1480 + q] as usize
+    plan[FIRST_DIVISIONS_AT + q] as usize
 }
 
 // One past the last of them; 0 where there is none.
@@ -82,7 +98,7 @@ pub fn last_division(plan: &Plan, q: usize) -> usize
     requires { ⌜ q < 16 ⌝ }
     ensures { λ x. ⌜ x ≡ lastCell (now (plan .entry)) q ⌝ }
 {
-    plan[1496 + q] as usize
+    plan[LAST_DIVISIONS_AT + q] as usize
 }
 
 // The most that a leaf is cheaper with c onsets carried in than with none.
@@ -90,21 +106,21 @@ pub fn saved(plan: &Plan, c: usize) -> u64
     requires { ⌜ c < 4 ⌝ }
     ensures { λ x. ⌜ x ≡ savedCell (now (plan .entry)) c ⌝ }
 {
-    plan[1512 + c]
+    plan[SAVINGS_AT + c]
 }
 
 // The number of nonterminals.
 pub fn nonterminals(plan: &Plan) -> usize
     ensures { λ x. ⌜ x ≡ nonterminalsCell (now (plan .entry)) ⌝ }
 {
-    plan[1517] as usize
+    plan[NONTERMINALS_AT] as usize
 }
 
 // The number of lengths.
 pub fn length_count(plan: &Plan) -> usize
     ensures { λ x. ⌜ x ≡ lengthsCell (now (plan .entry)) ⌝ }
 {
-    plan[1518] as usize
+    plan[LENGTH_COUNT_AT] as usize
 }
 
 // The length with index l.
@@ -112,7 +128,7 @@ pub fn length(plan: &Plan, l: usize) -> Units
     requires { ⌜ (l < 84) × ((s : Sheet) × Prepared s (now plan)) ⌝ }
     ensures { λ r. ⌜ r .0 ≡ lengthCell (now (plan .entry)) l ⌝ }
 {
-    Units(plan[640 + l] as u32)
+    Units(plan[LENGTHS_AT + l] as u32)
 }
 
 // The multiplier times the weight of rule r; 0 where there is no rule.
@@ -122,7 +138,7 @@ pub fn cost(plan: &Plan, r: usize) -> u64
         (x ≤ 4294836225) × ((s : Sheet) → Prepared s (now (plan .entry)) → x ≡ s .grammar .multiplier * weightAt s r)
         ⌝ }
 {
-    let a = plan[1516];
+    let a = plan[MULTIPLIER_AT];
     let rule = unpacked(plan[r]);
     match rule {
         Rule::Division {
@@ -172,8 +188,8 @@ pub fn split_by(plan: &Plan, l: usize, k: usize) -> Split
     if 8 < k {
         return Split { arity: 0, part: 0 };
     }
-    let part = plan[724 + 9 * l + k];
-    if plan[1518] <= part {
+    let part = plan[PART_LENGTHS_AT + PART_CELLS * l + k];
+    if plan[LENGTH_COUNT_AT] <= part {
         return Split { arity: 0, part: 0 };
     }
     Split {

@@ -6,6 +6,8 @@ ghost use Rattle.sheet.specs.Sheet.{Sheet};
 ghost use Rattle.trees.specs.ValidTrees.{weightAt};
 ghost use Rattle.plan.specs.Ways.{besideSum, beside};
 ghost use Rattle.plan.specs.Sections.{Small, Wide, PartBeside, DivisionHeld, WayIs, WayOf};
+use crate::layout::KINDS;
+use crate::layout::LEAF_CELLS;
 use expansions::PackedRules;
 use expansions::rule_at;
 use expansions::token_of;
@@ -18,10 +20,7 @@ pub const NONE: u64 = 1125899906842624;
 // The packed cell that no rule comes to: 64 × it.
 pub const NO_CELL: u64 = 72057594037927936;
 
-// The cells of the least leaves: four a nonterminal.
-pub const LEAF_CELLS: usize = 64;
-
-// The packed cell of the leaf rules of nonterminal q with each n, at 4 × q + n.
+// The packed cell of the leaf rules of nonterminal q with each n, at KINDS × q + n.
 pub type Leaves = [u64; LEAF_CELLS];
 
 // The smaller of two numbers.
@@ -44,10 +43,10 @@ fn leaf_beside(leaves: &Leaves, q: usize, i: usize, j: usize, n: usize) -> u64
     }
     if i == j + 1 {
         let kind = token_of(n, 1) as usize;
-        return leaves[4 * q + kind] / 64;
+        return leaves[KINDS * q + kind] / 64;
     }
     let kind = token_of(0, 1) as usize;
-    leaves[4 * q + kind] / 64
+    leaves[KINDS * q + kind] / 64
 }
 
 // The sum over the k parts of rule r.

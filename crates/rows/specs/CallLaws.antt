@@ -16,6 +16,7 @@ use Rattle.expansions.specs.Tables.{lastUnit}
 use Rattle.expansions.specs.Items.{firstAt, itemOf}
 use Rattle.expansions.specs.Places.{first-most}
 use Rattle.plan.specs.Plan.{lengthAt, leastLeaf, leafCell, lengthCell, firstCell, lastCell, ruleCount, DivisionsIn, Divides}
+use Rattle.plan.specs.Layout.{kinds}
 use Rattle.plan.specs.PlanLaws.{lengths-most, least-leaf-most, leaf-cell-least, length-positive, token-below}
 use Rattle.plan.specs.Packed.{packedLeaf, packed-leaf-most}
 use Rattle.rows.specs.declared.slots.Bar.{Bar}
@@ -156,7 +157,7 @@ module _ {s : Sheet} {plan units rows : List ℕ} {bar : Bar} {q l : ℕ} {left 
   entry-first = omega (arith, e .stands .first, first-most s (e .stands .in-bar .onsets .good) (left .0))
 
   -- none does: the item is a leaf of what is carried in, and nothing is carried on
-  pub entry-asked : {kind : ℕ} → kind ≡ token c from → (q < 16) × (kind < 4)
+  pub entry-asked : {kind : ℕ} → kind ≡ token c from → (q < 16) × (kind < kinds)
   entry-asked ek = (stands-head (e .stands), omega (arith, ek, token-below c from))
 
   pub entry-leaf : {kind w : ℕ} → left .0 + len .0 ≤ getD units from 0 → kind ≡ token c from → w ≡ leafCell plan q kind

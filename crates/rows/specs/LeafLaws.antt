@@ -14,6 +14,7 @@ use Rattle.expansions.specs.declared.Interval.{Interval}
 use Rattle.expansions.specs.declared.Placed.{Placed}
 use Rattle.expansions.specs.Items.{firstAt, PlacedAt, itemOf}
 use Rattle.plan.specs.Plan.{leafCell}
+use Rattle.plan.specs.Layout.{kinds}
 use Rattle.plan.specs.PlanLaws.{token-below, leaf-cell-most}
 use Rattle.plan.specs.Packed.{packedLeaf}
 use Rattle.rows.specs.Vectors.{vec}
@@ -44,7 +45,7 @@ module _ {s : Sheet} {plan units : List ℕ} {q : ℕ} {over : Interval} {from c
       omega (arith, placed .distance, own-distance-most s left len)
 
   module _ {kind : ℕ} (ek : kind ≡ token (c + p .early) from) where
-    pub kind-asked : (q < 16) × (kind < 4)
+    pub kind-asked : (q < 16) × (kind < kinds)
     kind-asked = (omega (arith, h .nonterminal, h .prepared .good .sixteen), omega (arith, ek, token-below (c + p .early) from))
 
     module _ {w : ℕ} (ew : w ≡ leafCell plan q kind) where

@@ -1,5 +1,5 @@
--- The rows of items with one onset inside that nothing is carried into: what the functions that give cells 0 and 1 of them are given and
--- give. Cells 2 and 3 have no tree, since no more onsets are carried on than are inside.
+-- The rows of items with one onset inside and one before that nothing is carried into: what the functions that give cells 0 and 1 of them
+-- are given and give. Cells 2 and 3 have no tree, since no more onsets are carried on than are inside.
 use Prim.Native.Nat.{ℕ, _+_, _-_, _*_, _/_, _≤_, _<_, min}
 use mathlib.Core.Path.{_≡_}
 use mathlib.Core.List.{List, [], _∷_}
@@ -34,15 +34,17 @@ pub record AloneEntry (s : Sheet) (plan units : List ℕ) (l : ℕ) (left : Unit
   pub first : from ≡ firstAt s (left .0)
   pub inhabited : Inhabited s l left
 
--- an item with one onset inside
+-- an item with one onset inside and one before it
 pub record OnePart (s : Sheet) (plan units rows : List ℕ) (bar : Bar) (q l : ℕ) (left : Units) (from : ℕ) : Type 0 where
   pub stands : Stands s plan units bar q l left from
+  pub begun : 0 < from
   pub one : onsetsIn s (left .0) (lengthAt s l) ≡ 1
   pub sound : Sound s rows
 
 -- and the place of its row from carry state 0
 pub record OneEntry (s : Sheet) (plan units rows : List ℕ) (bar : Bar) (q l : ℕ) (left : Units) (from at : ℕ) : Type 0 where
   pub entry : SolveEntry s plan units rows bar q l left from 0 at
+  pub begun : 0 < from
   pub one : onsetsIn s (left .0) (lengthAt s l) ≡ 1
 
 -- cells 0 and 1 of a leaf of nonterminal q, with an onset before it, whose only onset is d behind its left bound: an onset in the first
@@ -75,12 +77,14 @@ pub record Comes (s : Sheet) (q l : ℕ) (left : Units) (r : ℕ) (x : Pair) : T
   pub zeroth : packedTo s (itemAt s q l left) 0 (r + 1) 0 ≡ min (packedTo s (itemAt s q l left) 0 r 0) (x .zero)
   pub first : packedTo s (itemAt s q l left) 0 (r + 1) 1 ≡ min (packedTo s (itemAt s q l left) 0 r 1) (x .one)
 
--- rule r divides an item with one onset, d behind its left bound, into parts of the length with index l; the rules before r are done
+-- rule r divides an item with one onset, d behind its left bound, and one before it, into parts of the length with index l; the rules
+-- before r are done
 pub record OneRule (s : Sheet) (plan units rows : List ℕ) (bar : Bar) (r l : ℕ) (left : Units) (from d : ℕ) (best : Pair) : Type 0 where
   pub q : ℕ
   pub whole : ℕ
   pub arity : ℕ
   pub stands : Stands s plan units bar q whole left from
+  pub begun : 0 < from
   pub one : onsetsIn s (left .0) (lengthAt s whole) ≡ 1
   pub divides : Divides s q whole r arity l
   pub along : d ≡ unitAt s from - left .0

@@ -19,6 +19,7 @@ use Rattle.expansions.specs.Tables.{lastUnit}
 use Rattle.expansions.specs.Items.{firstAt}
 use Rattle.expansions.specs.Places.{first-most, first-next}
 use Rattle.plan.specs.Plan.{Prepared, ruleCount, lengthAt, lengthCell, leafCell, childCell, wayCell, WaysOf, Divides}
+use Rattle.plan.specs.Layout.{kinds}
 use Rattle.plan.specs.Packed.{packedLeaf}
 use Rattle.plan.specs.PlanLaws.{lengths-most, length-positive, child-at, straight-most, crossed-most, onward-most}
 use Rattle.rows.specs.declared.slots.Bar.{Bar}
@@ -114,6 +115,7 @@ module _ {s : Sheet} {plan us rows : List ℕ} {bar : Bar} {q l : ℕ} {left : U
         inhabited = some-inside;
         place = told s part-slot;
       };
+      begun = h .begun;
       one = h .one;
     }
 
@@ -170,7 +172,7 @@ module _ {s : Sheet} {plan us rows : List ℕ} {bar : Bar} {q l : ℕ} {left : U
         none-yet : (m : ℕ) → packedTo s g 0 0 m ≡ packedLeafTotal s g 0 m
         none-yet m = packed-none s g 0 m
 
-        leaf-at : (n : ℕ) → n < 4 → leafCell plan q n ≡ packedLeaf s q n
+        leaf-at : (n : ℕ) → n < kinds → leafCell plan q n ≡ packedLeaf s q n
         leaf-at n h = prepared .leaves q n (stands-head stands) h
 
         late-cell : min (64 * NONE) (leafCell plan q (token 0 1) + 64 * (len - d))
@@ -186,7 +188,8 @@ module _ {s : Sheet} {plan us rows : List ℕ} {bar : Bar} {q l : ℕ} {left : U
               (omega (arith, told .0, leaf .0, none-yet 0, cell, far), omega (arith, told .1, leaf .1, none-yet 1))
           | no h ↦
               let told = is .late (omega arith) in
-              let leaf = leaf-one-late s g (e .one) onsets (stands-near stands) (omega (arith, far, one-len)) in (
+              let leaf = leaf-one-late s g (e .one) onsets (stands-near stands) (omega (arith, stands .first, e .begun))
+              (omega (arith, far, one-len)) in (
                 omega (arith, told .0, leaf .0, none-yet 0),
                 told .1 ∙ late-cell ∙ sym (leaf .1) ∙ sym (none-yet 1),
               )
@@ -199,6 +202,7 @@ module _ {s : Sheet} {plan us rows : List ℕ} {bar : Bar} {q l : ℕ} {left : U
       whole = l;
       arity = k;
       stands = stands;
+      begun = e .begun;
       one = e .one;
       divides = divides;
       along = omega (arith, ed, ap (λ xs. getD xs from 0) (stands .in-bar .onsets .cells));
@@ -243,7 +247,8 @@ module _ {s : Sheet} {plan us rows : List ℕ} {bar : Bar} {r l : ℕ} {left : U
     there =
         subst (OneAt s (left .0) (lengthAt s l) (length kids)) (sym is)
         (one-at s (e .stands .in-bar .onsets .good) (left .0) (lengthAt s (e .whole)) (stands-near (e .stands)) (e .one) (lengthAt s l)
-        (length kids) (e .divides .whole ∙ ap (λ (k : ℕ). k * lengthAt s l) (sym (e .divides .count))))
+        (length kids) (e .divides .whole ∙ ap (λ (k : ℕ). k * lengthAt s l) (sym (e .divides .count)))
+        (omega (arith, e .stands .first, e .begun)))
       where
         is : j ≡ (unitAt s (firstAt s (left .0)) - left .0) / lengthAt s l
         is =
@@ -268,6 +273,7 @@ module _ {s : Sheet} {plan us rows : List ℕ} {bar : Bar} {r l : ℕ} {left : U
         stands = next-stands as-parts j (left .0 + j * len) within left-there q from eq
             (e .stands .first ∙ sym (one-first s (e .stands .in-bar .onsets .good) (left .0) (lengthAt s l) (length kids) j there)
             ∙ ap (firstAt s) (sym left-there));
+        begun = e .begun;
         one = ap (λ (n : ℕ). onsetsIn s n (lengthAt s l)) left-there ∙ there .here;
         sound = e .done .sound;
       }
@@ -333,9 +339,13 @@ module _ {s : Sheet} {plan us rows : List ℕ} {bar : Bar} {q l : ℕ} {left : U
     inhabited = e .inhabited;
   }
 
-  module _ (told : (c ≡ 0) × (onsetsIn s (left .0) (lengthAt s l) ≡ 1)) where
+  module _ (told : (c ≡ 0) × (0 < from) × (onsetsIn s (left .0) (lengthAt s l) ≡ 1)) where
     pub fresh-one : OneEntry s plan us rows bar q l left from at
-    fresh-one = record { entry = subst (λ (i : ℕ). SolveEntry s plan us rows bar q l left from i at) (told .0) e; one = told .1 }
+    fresh-one = record {
+      entry = subst (λ (i : ℕ). SolveEntry s plan us rows bar q l left from i at) (told .0) e;
+      begun = told .1;
+      one = told .2;
+    }
 
     pub fresh-row : {after r : List ℕ} → Row s after (itemAt s q l left) 0 r → Row s after (itemAt s q l left) c r
     fresh-row {after} {r} row = subst (λ (i : ℕ). Row s after (itemAt s q l left) i r) (sym (told .0)) row

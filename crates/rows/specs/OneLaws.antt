@@ -1,5 +1,5 @@
--- A row of parts with one onset, entered with nothing carried: the parts before the onset's are leaves of nothing, and of those behind it
--- the first may be a leaf of what is carried. At most one onset is carried on.
+-- A row of parts with one onset, entered with nothing carried and an onset before it: the parts before the onset's are leaves of nothing,
+-- and of those behind it the first may be a leaf of what is carried. At most one onset is carried on.
 use Prim.Native.Nat.{ℕ, _+_, _*_, _≤_, _<_, min}
 use mathlib.Core.Path.{_≡_, refl, ap, _∙_}
 use mathlib.Core.List.{List, [], _∷_, _++_}
@@ -15,7 +15,7 @@ use Rattle.trees.specs.ValidTrees.{onsetsBefore, adjoining, token}
 use Rattle.trees.specs.Kinds.{kind-before}
 use Rattle.trees.specs.Instance.{onsetsIn}
 use Rattle.trees.specs.LeastTotal.{NONE, carries, cellOf}
-use Rattle.trees.specs.Onsets.{onsets-add}
+use Rattle.trees.specs.Onsets.{onsets-add, before-later}
 use Rattle.trees.specs.Laws.{adjoining-append}
 use Rattle.plan.specs.Plan.{leastLeaf}
 use Rattle.plan.specs.PlanLaws.{least-leaf-most}
@@ -73,9 +73,10 @@ module _ (s : Sheet) (good : GoodRules (s .grammar)) where
       (omega (arith, none 2 (omega arith))) (omega (arith, none 3 (omega arith)))
 
   -- over an item without an onset
-  over-empty : (g : Item) (f : ℕ → ℕ) (a b : ℕ) → onsetsIn s (g .left) (g .len) ≡ 0 → Two f a b
+  over-empty : (g : Item) (f : ℕ → ℕ) (a b : ℕ) → onsetsIn s (g .left) (g .len) ≡ 0
+      → 0 < onsetsBefore s (g .left) → Two f a b
       → Two (past g f) (min NONE (min (a + leastLeaf s (g .nonterminal) (token 0 1)) (b + leastLeaf s (g .nonterminal) (token 1 1)))) NONE
-  over-empty g f a b e t = record {
+  over-empty g f a b e begun t = record {
     zeroth = low-two (λ c. f c + cellOf s g c 0) (a + leastLeaf s q (token 0 1)) (b + leastLeaf s q (token 1 1))
         (omega (arith, t .zeroth, leaf-cell 0 (omega arith))) (omega (arith, t .first, leaf-cell 1 (omega arith)))
         (omega (arith, t .second)) (omega (arith, t .third));
@@ -92,7 +93,7 @@ module _ (s : Sheet) (good : GoodRules (s .grammar)) where
           omega (
             arith,
             cell-empty s good g c 0 hc (omega arith) e,
-            ap (leastLeaf s q) (kind-before c (onsetsBefore s (g .left))),
+            ap (leastLeaf s q) (kind-before c (onsetsBefore s (g .left)) begun),
             least-leaf-most s q (token c 1),
             only-same NONE 0,
           )
@@ -114,35 +115,39 @@ module _ (s : Sheet) (good : GoodRules (s .grammar)) where
           ∙ omega arith
 
   -- over a row without an onset
-  over-row : (l p : ℕ) (qs : List ℕ) (f : ℕ → ℕ) (a : ℕ) → a ≤ NONE → onsetsIn s l (length qs * p) ≡ 0 → Two f a NONE
-      → Two (forward carries NONE (cellOf s) (adjoining l p qs) f) (min NONE (a + leafSum s qs)) NONE
+  over-row : (l p : ℕ) (qs : List ℕ) (f : ℕ → ℕ) (a : ℕ) → a ≤ NONE → onsetsIn s l (length qs * p) ≡ 0 → 0 < onsetsBefore s l
+      → Two f a NONE → Two (forward carries NONE (cellOf s) (adjoining l p qs) f) (min NONE (a + leafSum s qs)) NONE
   unfolding forward
-  over-row l p [] f a low e t =
+  over-row l p [] f a low e begun t =
       record { zeroth = omega (arith, t .zeroth); first = t .first; second = t .second; third = t .third }
-  over-row l p (q ∷ qs) f a low e t =
+  over-row l p (q ∷ qs) f a low e begun t =
       let g : Item = record { nonterminal = q; left = l; len = p } in
       let whole : onsetsIn s l (p + length qs * p) ≡ 0 = ap (onsetsIn s l) (omega arith) ∙ e in
       let here : onsetsIn s l p ≡ 0 = omega (arith, onsets-add s l p (length qs * p)) in
       let rest : onsetsIn s (l + p) (length qs * p) ≡ 0 = omega (arith, onsets-add s l p (length qs * p)) in
       let one : Two (past g f) (min NONE (a + leastLeaf s q (token 0 1))) NONE =
-      two-eq (omega arith) refl (over-empty g f a NONE here t) in
-      two-eq (omega arith) refl (over-row (l + p) p qs (past g f) (min NONE (a + leastLeaf s q (token 0 1))) (omega arith) rest one)
+      two-eq (omega arith) refl (over-empty g f a NONE here begun t) in
+      two-eq (omega arith) refl (over-row (l + p) p qs (past g f) (min NONE (a + leastLeaf s q (token 0 1))) (omega arith) rest
+      (before-later s l p begun) one)
 
   -- behind an item that leaves a and b, over a row without an onset
-  over-behind : (l p : ℕ) (qs : List ℕ) (f : ℕ → ℕ) (a b : ℕ) → 0 < length qs → onsetsIn s l (length qs * p) ≡ 0 → Two f a b
+  over-behind : (l p : ℕ) (qs : List ℕ) (f : ℕ → ℕ) (a b : ℕ) → 0 < length qs → onsetsIn s l (length qs * p) ≡ 0
+      → 0 < onsetsBefore s l → Two f a b
       → Two (forward carries NONE (cellOf s) (adjoining l p qs) f) (min NONE (min (a + leafSumFrom s 0 qs) (b + leafSumFrom s 1 qs))) NONE
   unfolding forward
-  over-behind l p [] f a b some-part e t = absurd (not-suc-le-zero some-part)
-  over-behind l p (q ∷ qs) f a b some-part e t =
+  over-behind l p [] f a b some-part e begun t = absurd (not-suc-le-zero some-part)
+  over-behind l p (q ∷ qs) f a b some-part e begun t =
       let g : Item = record { nonterminal = q; left = l; len = p } in
       let low = min (a + leastLeaf s q (token 0 1)) (b + leastLeaf s q (token 1 1)) in
       let whole : onsetsIn s l (p + length qs * p) ≡ 0 = ap (onsetsIn s l) (omega arith) ∙ e in
       let here : onsetsIn s l p ≡ 0 = omega (arith, onsets-add s l p (length qs * p)) in
       let rest : onsetsIn s (l + p) (length qs * p) ≡ 0 = omega (arith, onsets-add s l p (length qs * p)) in
-      two-eq (omega arith) refl (over-row (l + p) p qs (past g f) (min NONE low) (omega arith) rest (over-empty g f a b here t))
+      two-eq (omega arith) refl (over-row (l + p) p qs (past g f) (min NONE low) (omega arith) rest (before-later s l p begun)
+      (over-empty g f a b here begun t))
 
   -- over a row of which the part behind those of xs has the onset
-  module _ (l p k : ℕ) (xs ys : List ℕ) (before : onsetsIn s l (length xs * p) ≡ 0) (here : onsetsIn s (l + length xs * p) p ≡ 1)
+  module _ (l p k : ℕ) (xs ys : List ℕ) (begun : 0 < onsetsBefore s l) (before : onsetsIn s l (length xs * p) ≡ 0)
+      (here : onsetsIn s (l + length xs * p) p ≡ 1)
       (after : onsetsIn s (l + length xs * p + p) (length ys * p) ≡ 0) where
     abbrev theOne : Item
     theOne = record { nonterminal = k; left = l + length xs * p; len = p }
@@ -159,7 +164,7 @@ module _ (s : Sheet) (good : GoodRules (s .grammar)) where
         let start : Two (only NONE 0) 0 NONE = record { zeroth = refl; first = refl; second = refl; third = refl } in
         two-eq (omega arith) (omega arith)
         (over-one theOne (forward carries NONE (cellOf s) (adjoining l p xs) (only NONE 0)) (min NONE (0 + leafSum s xs)) here
-        (over-row l p xs (only NONE 0) 0 (omega arith) before start))
+        (over-row l p xs (only NONE 0) 0 (omega arith) before begun start))
 
     row-is : (m : ℕ) → wholeRow m ≡ forward carries NONE (cellOf s) (adjoining (l + length xs * p + p) p ys) upTo m
     unfolding upTo forward
@@ -185,4 +190,5 @@ module _ (s : Sheet) (good : GoodRules (s .grammar)) where
         (cellOf s theOne 0 1 + (leafSum s xs + leafSumFrom s 1 ys)))) NONE
     one-inner h =
         two-same row-is
-        (two-eq (omega arith) refl (over-behind (l + length xs * p + p) p ys upTo _ _ h after up-to-is))
+        (two-eq (omega arith) refl (over-behind (l + length xs * p + p) p ys upTo _ _ h after
+        (before-later s (l + length xs * p) p (before-later s l (length xs * p) begun)) up-to-is))

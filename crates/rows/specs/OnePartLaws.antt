@@ -12,7 +12,7 @@ use lib.Dec.{eqb}
 use lib.ListN.{length, drop, getD}
 use Rattle.sheet.specs.Sheet.{Onset, Sheet}
 use Rattle.sheet.specs.Good.{GoodOnsets}
-use Rattle.trees.specs.ValidTrees.{whose, isEarly, inside, early, late, token, distanceTo}
+use Rattle.trees.specs.ValidTrees.{whose, isEarly, inside, early, late, onsetsBefore, token, distanceTo}
 use Rattle.trees.specs.Instance.{onsetsIn, earlyCount, lateCount, ownDistance}
 use Rattle.trees.specs.Onsets.{onsets-add}
 use Rattle.plan.specs.Plan.{leastLeaf}
@@ -34,8 +34,9 @@ part-of-unit l (suc p) k u h e =
     let sum : (u - l) / suc p * suc p + (u - l) % suc p ≡ u - l = div-add-mod' (u - l) (suc p) in
     (div-lt-iff-lt-mul {k = suc p} {x = u - l} {y = k} (omega arith) .1 (omega arith), omega arith, omega arith)
 
--- of k parts of length p, from l on, part j alone has an onset, and it has one
+-- of k parts of length p, from l on, part j alone has an onset, and it has one; an onset lies before them
 pub record OneAt (s : Sheet) (l p k j : ℕ) : Type 0 where
+  pub begun : 0 < onsetsBefore s l
   pub within : j < k
   pub before : onsetsIn s l (j * p) ≡ 0
   pub here : onsetsIn s (l + j * p) p ≡ 1
@@ -84,14 +85,15 @@ module _ (s : Sheet) (good : GoodOnsets (s .playing)) (l n : ℕ) (near : l + n 
       omega (arith, first-next s good a m, first-next s good l n, first-later s good (a + m) (l + n) k)
 
   -- so it is that of one part
-  pub one-at : (p k : ℕ) → n ≡ k * p → OneAt s l p k ((unit - l) / p)
-  one-at p k e = go (part-of-unit l p k unit (one-unit .0) (omega (arith, one-unit .1)))
+  pub one-at : (p k : ℕ) → n ≡ k * p → 0 < onsetsBefore s l → OneAt s l p k ((unit - l) / p)
+  one-at p k e begun = go (part-of-unit l p k unit (one-unit .0) (omega (arith, one-unit .1)))
     where
       j : ℕ
       j = (unit - l) / p
 
       go : ((unit - l) / p < k) × (l + (unit - l) / p * p ≤ unit) × (unit < l + (unit - l) / p * p + p) → OneAt s l p k ((unit - l) / p)
       go (a, b, c) = record {
+        begun = begun;
         within = a;
         before = omega (arith, parts, behind, here);
         here = here;

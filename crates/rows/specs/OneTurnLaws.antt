@@ -75,7 +75,7 @@ module _ (s : Sheet) (good : GoodRules (s .grammar)) (l p : ℕ) where
   both xs k ys at =
       rw (getD-middle xs k ys, beside-sum-is s xs k ys 0, beside-sum-is s xs k ys 1) (
         (λ e. last (omega (arith, length-middle xs k ys))),
-        (λ h. one-inner s good l p k xs ys (at .before) (at .here) (at .after (length ys) (length-middle xs k ys))
+        (λ h. one-inner s good l p k xs ys (at .begun) (at .before) (at .here) (at .after (length ys) (length-middle xs k ys))
             (omega (arith, length-middle xs k ys))),
       )
     where
@@ -85,7 +85,7 @@ module _ (s : Sheet) (good : GoodRules (s .grammar)) (l p : ℕ) where
       last e =
           let nothing : leafSumFrom s 0 ys ≡ 0 = no-leaf ys e in
           two-eq (omega arith) (omega arith)
-          (one-last s good l p k xs ys (at .before) (at .here) (at .after (length ys) (length-middle xs k ys)) e)
+          (one-last s good l p k xs ys (at .begun) (at .before) (at .here) (at .after (length ys) (length-middle xs k ys)) e)
         where
           no-leaf : (zs : List ℕ) → length zs ≡ 0 → leafSumFrom s 0 zs ≡ 0
           no-leaf [] e = refl
@@ -213,15 +213,15 @@ module _ (s : Sheet) (g : Item) (one : onsetsIn s (g .left) (g .len) ≡ 1) wher
         go (a, b, c) =
             (packed-leaf-at s g 0 (rw (a, c) refl) 0 (sym b), packed-leaf-none s g 0 1 (λ e. omega arith))
 
-    pub leaf-one-late : g .len ≤ 2 * along
+    pub leaf-one-late : 0 < onsetsBefore s (g .left) → g .len ≤ 2 * along
         → (packedLeafTotal s g 0 0 ≡ 64 * NONE)
         × (packedLeafTotal s g 0 1 ≡ min (64 * NONE) (packedLeaf s (g .nonterminal) (token 0 1) + 64 * (g .len - along)))
-    leaf-one-late h = go (one-late s good (g .left) (g .len) near one h)
+    leaf-one-late begun h = go (one-late s good (g .left) (g .len) near one h)
       where
         go : (earlyCount s (g .left) (g .len) ≡ 0) × (lateCount s (g .left) (g .len) ≡ 1)
             × (ownDistance s (g .left) (g .len) ≡ g .len - along)
             → (packedLeafTotal s g 0 0 ≡ 64 * NONE)
             × (packedLeafTotal s g 0 1 ≡ min (64 * NONE) (packedLeaf s (g .nonterminal) (token 0 1) + 64 * (g .len - along)))
         go (a, b, c) =
-            let kind = kind-before (0 + earlyCount s (g .left) (g .len)) (onsetsBefore s (g .left)) in
+            let kind = kind-before (0 + earlyCount s (g .left) (g .len)) (onsetsBefore s (g .left)) begun in
             (packed-leaf-none s g 0 0 (λ e. omega arith), packed-leaf-at s g 0 (rw (kind, a, c) refl) 1 (sym b))

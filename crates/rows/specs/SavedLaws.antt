@@ -1,5 +1,6 @@
--- What carried onsets can save. Those carried into an item are placed at its first leaf, so they change the kind of that leaf alone, and
--- save at most what they save at some leaf. Assumes nothing.
+-- What carried onsets can save, where an onset lies before. Those carried into an item are placed at its first leaf, so they change the
+-- kind of that leaf alone, and save at most what they save at some leaf. Before the first onset there is no such bound: without them that
+-- leaf is a rest, and there may be no rule for one. Assumes nothing.
 use Prim.Native.Nat.{ℕ, zero, suc, _+_, _/_, _≤_, _<_, min}
 use mathlib.Core.Path.{_≡_, refl, sym, ap, _∙_}
 use mathlib.Core.List.{List, [], _∷_}
@@ -27,7 +28,7 @@ use Rattle.trees.specs.Room.{good-division}
 use Rattle.sizes.specs.Sizes.{largest}
 use Rattle.plan.specs.Leaves.{ruleCount, leafCost, leastLeaf}
 use Rattle.plan.specs.Plan.{savedAt, savedBy}
-use Rattle.plan.specs.PlanLaws.{least-leaf-most, token-below}
+use Rattle.plan.specs.PlanLaws.{least-leaf-most, token-sounds}
 use Rattle.rows.specs.VectorLaws.{lowest-none}
 use Rattle.rows.specs.OnsetLaws.{largest-le}
 use Rattle.rows.specs.CellLaws.{leafTotal, leaf-no-division, totalBy, divisionBy, divisionTotal}
@@ -89,7 +90,7 @@ module _ (s : Sheet) (good : GoodRules (s .grammar)) where
     | yes h ↦
         omega (
           arith,
-          saved-most-at q c (token e 1) h (token-below e 1),
+          saved-most-at q c (token e 1) h (token-sounds e),
           ap (leastLeaf s q) (rw (zero-add (token e 1), zero-add e) at (token-again 0 e)),
           ap (leastLeaf s q) (token-again c e),
         )
@@ -123,44 +124,42 @@ onward-only y low (suc (suc (suc (suc c)))) h = let no-more : ⊥ = omega arith 
 
 -- ---- what a carry saves of a cell
 
--- a division has parts
-row-some : (l p : ℕ) (qs : List ℕ) → 2 ≤ length qs → 0 < length (adjoining l p qs)
-row-some l p [] h = let no-more : ⊥ = omega arith in absurd no-more
-row-some l p (q ∷ qs) h = omega arith
-
 leaf-within : (a b d l k : ℕ) → a ≤ b + k → min NONE (a + d + l) ≤ min NONE (b + d + l) + k
 leaf-within a b d l k h = omega arith
 
 module _ (s : Sheet) (good : GoodRules (s .grammar)) (c : ℕ) (few : c < 4) where
   abbrev Saved : Item → Type 0
-  Saved g = (m : ℕ) → m < 4 → cellOf s g 0 m ≤ cellOf s g c m + savedBy s c
+  Saved g = 0 < onsetsBefore s (g .left) → (m : ℕ) → m < 4 → cellOf s g 0 m ≤ cellOf s g c m + savedBy s c
 
-  leaf-total-saved : (g : Item) (m : ℕ) → leafTotal s g 0 m ≤ leafTotal s g c m + savedBy s c
+  leaf-total-saved : (g : Item) → 0 < onsetsBefore s (g .left) → (m : ℕ) → leafTotal s g 0 m ≤ leafTotal s g c m + savedBy s c
   unfolding leafTotal
-  leaf-total-saved g m =
+  leaf-total-saved g begun m =
       let early = earlyCount s (g .left) (g .len) in
       let before = onsetsBefore s (g .left) in
       leaf-within (leastLeaf s (g .nonterminal) (token (0 + early) before)) (leastLeaf s (g .nonterminal) (token (c + early) before))
       (ownDistance s (g .left) (g .len)) (only NONE (lateCount s (g .left) (g .len)) m) (savedBy s c)
-      (rw (kind-before (0 + early) before, kind-before (c + early) before, zero-add early) (leaf-saved s good (g .nonterminal) c early))
+      (rw (kind-before (0 + early) before begun, kind-before (c + early) before begun, zero-add early)
+      (leaf-saved s good (g .nonterminal) c early))
 
-  -- the parts of a division: the carry goes into the first
-  parts-saved : (gs : List Item) → 0 < length gs → Every Saved gs → (m : ℕ) → m < 4
-      → forward carries NONE (cellOf s) gs (only NONE 0) m ≤ forward carries NONE (cellOf s) gs (only NONE c) m + savedBy s c
+  -- the parts of a division: the carry goes into the first, which has the left bound of the whole
+  parts-saved : (l p : ℕ) (qs : List ℕ) → 2 ≤ length qs → 0 < onsetsBefore s l → Every Saved (adjoining l p qs) → (m : ℕ) → m < 4
+      → forward carries NONE (cellOf s) (adjoining l p qs) (only NONE 0) m
+      ≤ forward carries NONE (cellOf s) (adjoining l p qs) (only NONE c) m + savedBy s c
   unfolding forward
-  parts-saved [] h saved m b = let no-more : ⊥ = omega arith in absurd no-more
-  parts-saved (g ∷ gs) h (first, _) m b =
-      forward-within (savedBy s c) (cellOf s) gs (onward carries NONE (only NONE 0) (cellOf s g))
+  parts-saved l p [] h begun saved m b = let no-more : ⊥ = omega arith in absurd no-more
+  parts-saved l p (q ∷ qs) h begun (first, _) m b =
+      let g : Item = record { nonterminal = q; left = l; len = p } in
+      forward-within (savedBy s c) (cellOf s) (adjoining (l + p) p qs) (onward carries NONE (only NONE 0) (cellOf s g))
       (onward carries NONE (only NONE c) (cellOf s g)) (λ x hx. omega (
         arith,
-        first x hx,
+        first begun x hx,
         onward-only (λ i. cellOf s g i x) (λ i. cell-none s g i x) 0 (omega arith),
         onward-only (λ i. cellOf s g i x) (λ i. cell-none s g i x) c few,
       ))
       m b
 
   -- a division that is made from c is made from 0, with the same parts
-  module _ (g : Item) (parts : EveryPart (instanceOf s) Saved g) (m : ℕ) (hm : m < 4) (r : ℕ) where
+  module _ (g : Item) (begun : 0 < onsetsBefore s (g .left)) (parts : EveryPart (instanceOf s) Saved g) (m : ℕ) (hm : m < 4) (r : ℕ) where
     abbrev Within : ℕ → ℕ → Type 0
     Within x y = min NONE x ≤ y + savedBy s c
 
@@ -176,8 +175,7 @@ module _ (s : Sheet) (good : GoodRules (s .grammar)) (c : ℕ) (few : c < 4) whe
           arith,
           total-some s g c m r (atDivision g c ks) is,
           total-some s g 0 m r (atDivision g 0 ks) from-none,
-          parts-saved (adjoining (g .left) (g .len / length ks) ks)
-              (row-some (g .left) (g .len / length ks) ks (good-division s good r (g .nonterminal) (d .weight) ks (d .rule) .two))
+          parts-saved (g .left) (g .len / length ks) ks (good-division s good r (g .nonterminal) (d .weight) ks (d .rule) .two) begun
               (parts c r (atDivision g c ks) is) m hm,
         )
 
@@ -198,17 +196,17 @@ module _ (s : Sheet) (good : GoodRules (s .grammar)) (c : ℕ) (few : c < 4) whe
         go (some (leaf h w n)) e = omega arith
         go (some (division h w ks)) e = by h w ks e (instanceOf s .expand g c r) refl
 
-  -- a cell from c is no cheaper than that from 0 by more than what c saves
-  pub cell-saved : (g : Item) (m : ℕ) → m < 4 → cellOf s g 0 m ≤ cellOf s g c m + savedBy s c
+  -- with an onset before the item, its cell from c is no cheaper than that from 0 by more than what c saves
+  pub cell-saved : (g : Item) → 0 < onsetsBefore s (g .left) → (m : ℕ) → m < 4 → cellOf s g 0 m ≤ cellOf s g c m + savedBy s c
   cell-saved g = depth-rec (instanceOf s) (λ g. g .len) (falls s good) (λ _. Saved) step (suc (g .len)) g (omega arith)
     where
       step : (d : ℕ) (g : Item) → EveryPart (instanceOf s) Saved g → Saved g
-      step d g parts m hm =
+      step d g parts begun m hm =
           omega (
             arith,
             cell-split s good g 0 m (omega arith) hm,
             cell-split s good g c m few hm,
-            leaf-total-saved g m,
+            leaf-total-saved g begun m,
             lowest-within (savedBy s c) NONE (divisionTotal s g 0 m) (divisionTotal s g c m) (ruleCount s)
-                (λ r _. division-saved g parts m hm r),
+                (λ r _. division-saved g begun parts m hm r),
           )

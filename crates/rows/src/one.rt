@@ -1,5 +1,5 @@
-// Rows of items with one onset inside that nothing is carried into: cells 0 and 1, since cells 2 and 3 have no tree. Of a division's parts
-// only the one with the onset is looked up; the plan has what the others add.
+// Rows of items with one onset inside and one before that nothing is carried into: cells 0 and 1, since cells 2 and 3 have no tree. Of a
+// division's parts only the one with the onset is looked up; the plan has what the others add, none of them a rest.
 ghost use mathlib.Core.Path.{_≡_};
 ghost use mathlib.Core.Bool.{true};
 ghost use Prim.Native.Nat.{_+_, _≤_, _<_};
@@ -36,7 +36,7 @@ pub struct Pair {
     pub one: u64,
 }
 
-// Whether nothing is carried in and the onset at place `from` is the only one inside.
+// Whether nothing is carried in, the onset at place `from` is the only one inside, and it is not the first of the piece.
 pub fn alone<'a>(
     plan: &'a Plan,
     units: &'a PackedUnits,
@@ -48,10 +48,13 @@ pub fn alone<'a>(
     requires { ⌜ ((s : Sheet) × AloneEntry s (now plan) (now units) l left from) ⌝ }
     ensures { λ r. ⌜
         ((s : Sheet) → AloneEntry s (now (plan .entry)) (now (units .entry)) l left from → r ≡ true
-        → (c ≡ 0) × (onsetsIn s (left .0) (lengthAt s l) ≡ 1))
+        → (c ≡ 0) × (0 < from) × (onsetsIn s (left .0) (lengthAt s l) ≡ 1))
         ⌝ }
 {
     if c != 0 {
+        return false;
+    }
+    if from == 0 {
         return false;
     }
     let len = length(plan, l);
@@ -97,7 +100,7 @@ pub fn by_way(plan: &Plan, r: usize, j: usize, y: Pair) -> Pair
     Pair { zero: a, one: b }
 }
 
-// Solves the row of an item with one onset inside, from carry state 0, and stores it at its place.
+// Solves the row of an item with one onset inside and one before it, from carry state 0, and stores it at its place.
 pub fn solve_one<'a>(
     plan: &'a Plan,
     units: &'a PackedUnits,
@@ -176,7 +179,7 @@ fn rule_one<'a>(
     }
 }
 
-// Cells 0 and 1 of the row of a part with one onset inside, from carry state 0.
+// Cells 0 and 1 of the row of a part with one onset inside and one before it, from carry state 0.
 fn part_one<'a>(
     plan: &'a Plan,
     units: &'a PackedUnits,

@@ -1,19 +1,13 @@
 // The rows of items: looked up where the table has them, and solved where it has not.
-ghost use mathlib.Core.Path.{_≡_};
-ghost use mathlib.Core.Bool.{true};
 ghost use mathlib.Core.List.{List};
-ghost use Prim.Native.Nat.{ℕ, _+_, _/_, _<_, _≤_};
-ghost use lib.ListN.{getD};
+ghost use Prim.Native.Nat.{ℕ, _+_};
 ghost use Rattle.sheet.specs.Sheet.{Sheet};
-ghost use Rattle.expansions.specs.Items.{itemOf};
-ghost use Rattle.plan.specs.Plan.{Prepared, leafCell};
-ghost use Rattle.rows.specs.Vectors.{vec, Low};
-ghost use Rattle.rows.specs.PackedLaws.{packedLeafTotal};
 ghost use Rattle.rows.specs.Slots.{itemAt};
-ghost use Rattle.rows.specs.Rows.{Entry, Row, SolveEntry, PartsEntry, Parted, PartEntry, LiftEntry, ReachedTo, Taken, LeafEntry};
-ghost use Rattle.trees.specs.ValidTrees.{token};
-ghost use Rattle.trees.specs.LeastTotal.{NONE};
-ghost use Rattle.rows.specs.IdleLaws.{Idle};
+ghost use Rattle.rows.specs.Rows.{Entry, Row, SolveEntry, PartsEntry, Parted, PartEntry, LiftEntry, Taken};
+use crate::carry::idle_at;
+use crate::carry::reached;
+use crate::leaf::leaf_row;
+use crate::leaf::least_placed;
 use crate::one::alone;
 use crate::one::solve_one;
 use crate::slots::Bar;
@@ -25,14 +19,12 @@ use crate::slots::store;
 use crate::vector::NO_CELL;
 use crate::vector::NONE;
 use crate::vector::dot;
-use crate::vector::least;
 use crate::vector::only_at;
 use crate::vector::relax;
 use crate::vector::relax_rule;
 use crate::vector::totals;
 use expansions::Interval;
 use expansions::PackedUnits;
-use expansions::place;
 use expansions::token_of;
 use plan::Plan;
 use plan::child;
@@ -40,67 +32,9 @@ use plan::cost;
 use plan::first_division;
 use plan::last_division;
 use plan::leaf_cell;
-use plan::least_leaf;
 use plan::length;
-use plan::saved;
 use plan::split_at;
 use sheet::Units;
-
-// The packed cells of a leaf over an interval, by carry state behind it. More than three late onsets are no carry state.
-pub fn leaf_row<'a>(
-    plan: &'a Plan,
-    units: &'a PackedUnits,
-    q: usize,
-    over: Interval,
-    from: usize,
-    c: usize,
-) -> [u64; 4]
-    requires { ⌜ ((s : Sheet) × LeafEntry s (now plan) (now units) q over from c) ⌝ }
-    ensures { λ r. ⌜
-        ((s : Sheet) → LeafEntry s (now (plan .entry)) (now (units .entry)) q over from c
-        → r ≡ vec (packedLeafTotal s (itemOf q over) c))
-        ⌝ }
-{
-    let placed = place(units, over, from);
-    let late = placed.late;
-    let kind = token_of(c + placed.early, from);
-    let w = leaf_cell(plan, q, kind as usize);
-    let x = least(NO_CELL, w + 64 * placed.distance);
-    let mut o = [NO_CELL; 4];
-    if late < 4 {
-        o[late] = x;
-    }
-    o
-}
-
-// Whether carry state c lowers nothing, where `zero` and `a` are the totals to 0 and to c: it is not reached, or carrying nothing is
-// cheaper by more than all that c can save. (By as much would do for totals, but could lose the first tree.)
-fn idle_at(plan: &Plan, zero: u64, a: u64, c: usize) -> bool
-    requires { ⌜ (c < 4) × (zero ≤ NONE) × ((s : Sheet) × Prepared s (now plan)) ⌝ }
-    ensures { λ r. ⌜
-        ((s : Sheet) (v : List ℕ) → Prepared s (now (plan .entry)) → zero ≡ getD v 0 0 → a ≡ getD v c 0 → r ≡ true
-        → Idle s (λ i. getD v i 0) c)
-        ⌝ }
-{
-    if a >= NONE {
-        return true;
-    }
-    if c == 0 {
-        return false;
-    }
-    if zero + saved(plan, c) < a {
-        return true;
-    }
-    false
-}
-
-// The same of a vector.
-pub fn idle(plan: &Plan, v: [u64; 4], c: usize) -> bool
-    requires { ⌜ (c < 4) × Low v × ((s : Sheet) × Prepared s (now plan)) ⌝ }
-    ensures { λ r. ⌜ ((s : Sheet) → Prepared s (now (plan .entry)) → r ≡ true → Idle s (λ i. getD v i 0) c) ⌝ }
-{
-    idle_at(plan, v[0], v[c], c)
-}
 
 // The row of an item from carry state c. Without an onset inside it is a leaf of what is carried in, and nothing is carried on.
 pub fn cells<'a>(
@@ -132,7 +66,8 @@ pub fn cells<'a>(
     fresh(plan, units, rows, bar, q, l, left, from, c, at)
 }
 
-// Solves the row of an item with an onset inside: the short way where it is the only one and nothing is carried in.
+// Solves the row of an item with an onset inside: the short way where it is the only one, not the first of the piece, and nothing is
+// carried in.
 fn fresh<'a>(
     plan: &'a Plan,
     units: &'a PackedUnits,
@@ -239,15 +174,6 @@ pub fn parts<'a>(
     v
 }
 
-// The least cost of a leaf rule of nonterminal q for c onsets placed, where `before` lie before the leaf, or the cap.
-fn least_placed(plan: &Plan, q: usize, c: usize, before: usize) -> u64
-    requires { ⌜ q < 16 ⌝ }
-    ensures { λ x. ⌜ x ≡ leafCell (now (plan .entry)) q (token c before) / 64 ⌝ }
-{
-    let kind = token_of(c, before);
-    least_leaf(plan, q, kind as usize)
-}
-
 // The vector v, taken over one part; `to` is the place of the first onset behind it. The totals to the carry states move up one by one, so
 // that none is looked up by its index.
 fn part<'a>(
@@ -296,22 +222,6 @@ fn part<'a>(
     o
 }
 
-// One past the last carry state that a vector reaches, and at least 1.
-fn reached(v: [u64; 4]) -> usize
-    ensures { λ r. ⌜ ReachedTo v r ⌝ }
-{
-    if v[3] < NONE {
-        return 4;
-    }
-    if v[2] < NONE {
-        return 3;
-    }
-    if v[1] < NONE {
-        return 2;
-    }
-    1
-}
-
 // One carry state more of a part with an onset inside, where `zero` and `a` are the totals to 0 and to c; an idle one is left out.
 fn lift<'a>(
     plan: &'a Plan,
@@ -336,7 +246,7 @@ fn lift<'a>(
         → Taken s (now (rows .exit)) (itemAt s q l left) v (c + 1) r)
         ⌝ }
 {
-    if idle_at(plan, zero, a, c) {
+    if idle_at(plan, zero, a, c, from) {
         return o;
     }
     let at = place_of(plan, bar, q, l, from, c);

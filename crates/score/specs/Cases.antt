@@ -1,15 +1,17 @@
 -- Writing on document 01's sheet S, by computation: "Tree `010303`, R 8, D 1,008" and the three lines that "the program prints"; the
--- examples of refusals 12, "S with `00`", and 13, "S with 0 bytes", and that a slice of one byte less than the text is short too.
+-- examples of refusals 12, "S with `00`", and 13, "S with 0 bytes", and that a slice of one byte less than the text is short too. And the
+-- line of a rest.
 use Prim.Native.Nat.{ℕ, _≤_, _<_}
 use mathlib.Core.Path.{_≡_, refl, ap, _∙_}
 use mathlib.Core.Bool.{cond}
-use mathlib.Core.List.{List, [], _∷_}
+use mathlib.Core.List.{List, [], _∷_, _++_}
 use mathlib.Core.Option.{Option·elim}
 use borrow.Author.Tests.{le-leb, lt-leb}
 use Rattle.hextext.specs.Written.{lineText}
 use Rattle.hextext.specs.Fields.{bigEndian}
 use Rattle.sheet.specs.Literal.{textOf}
-use Rattle.sheet.specs.Cases.{S, sheetS, S-means}
+use Rattle.sheet.specs.Reading.{readSheet}
+use Rattle.sheet.specs.Cases.{grammarS, S, sheetS, S-means}
 use Rattle.derivations.specs.Derivation.{onto}
 use Rattle.trees.specs.ValidTrees.{whose, inside, early, late, bars, placedFrom, distanceTo}
 use Rattle.trees.specs.Leaves.{leavesFrom}
@@ -62,3 +64,14 @@ S-short room h = S-text room ∙ ap (λ b. cond b (accepted linesOfS) noRoom) (l
 pub S-no-tree : (room : ℕ) → writeText S (0 ∷ []) room ≡ refused 12 0
 unfolding writeSheet
 S-no-tree room = on-S (0 ∷ []) room _ (ap (writePriced sheetS (0 ∷ []) room) S-not-priced)
+
+-- document 02, (i), "`53` lines show 04": S with a rest of the halves as rule 4 and one onset, at the middle of the bar; its tree `010403`
+-- in a slice of the exact length
+abbrev rested : List ℕ
+rested = grammarS ++ textOf "4C01000204\n4501001E8480\n4E000F42403E40\n"
+
+pub rest-written : writeText rested (1 ∷ 4 ∷ 3 ∷ []) 93
+    ≡ accepted (textOf "5401000000000000005A00000000000000090000000000000000\n530000000027600400\n5300002760276001013E\n")
+unfolding writeText writeSheet readSheet priceSheet onto distanceTo Option·elim scoreText headLine leafLines leafLine bigEndian lineText
+    leavesFrom bars placedFrom early late inside whose
+rest-written = refl

@@ -21,13 +21,12 @@ use Rattle.trees.specs.Found.{cells-least}
 use Rattle.rows.specs.Vectors.{vec, Low}
 use Rattle.rows.specs.VectorLaws.{vec-at, only-low, lowest-same}
 use Rattle.rows.specs.PackedLaws.{packedCell, packed-cell-is}
-use Rattle.rows.specs.IdleLaws.{Idle}
 use Rattle.rows.specs.PartLaws.{forward-low}
 use Rattle.building.specs.Contracts.{at, suffixCosts}
 use Rattle.building.specs.RebuildLaws.{row-drop}
 use Rattle.building.specs.InterchangeLaws.{suffix-saved}
 use Rattle.search.specs.Contracts.{barItem, barsFrom, barsTo, barSuffixCosts, prefixCosts, RootRow, CutPoint, OnPath}
-use Rattle.search.specs.Contracts.{Suffix}
+use Rattle.search.specs.Contracts.{IdleBefore, Suffix}
 
 -- ---- bars in a row
 
@@ -70,7 +69,7 @@ module _ (s : Sheet) where
 
   -- what a bar's row totals: the bar's cells, or the cap where the carry state is idle
   pub root-total : GoodRules (s .grammar) → (b c : ℕ) (y : List ℕ) → RootRow s b c y → (m : ℕ) → c < carries → m < carries
-      → (getD y m 0 / 64 ≡ cellOf s (barItem s b) c m) ⊎ (Idle s (prefixCosts s b) c × (getD y m 0 / 64 ≡ NONE))
+      → (getD y m 0 / 64 ≡ cellOf s (barItem s b) c m) ⊎ (IdleBefore s b c × (getD y m 0 / 64 ≡ NONE))
   root-total good b c y (inl e) m hc hm =
       inl (ap (λ (x : List ℕ). getD x m 0 / 64) e ∙ ap (_/ 64) (vec-at (packedCell s (barItem s b) c) m hm)
       ∙ packed-cell-is s good (barItem s b) c m hc hm)
@@ -136,9 +135,9 @@ module _ (s : Sheet) (e : ℕ) where
 
     module _ (reached : prefixCosts s e 0 < NONE) where
       -- none of them is idle
-      pub path-busy : (b c : ℕ) → b ≤ e → 0 < c → c < carries → OnPath s e b c → Idle s (prefixCosts s b) c → ⊥
+      pub path-busy : (b c : ℕ) → b ≤ e → 0 < c → c < carries → OnPath s e b c → IdleBefore s b c → ⊥
       path-busy b c hb some hc on (inl h) = omega arith
-      path-busy b c hb some hc on (inr (_, h)) = elim (decLt b e) [
+      path-busy b c hb some hc on (inr (_, begun, h)) = elim (decLt b e) [
         | yes k ↦
             let same : (m : ℕ) → barSuffixCosts s e b m ≡ suffixCosts s (barItem s b ∷ barsFrom s e (b + 1)) (only NONE 0) m =
             λ m. ap (λ (gs : List Item). suffixCosts s gs (only NONE 0) m) (bar-next b k) in
@@ -146,7 +145,7 @@ module _ (s : Sheet) (e : ℕ) where
               arith,
               same 0,
               same c,
-              suffix-saved s good (barItem s b) (barsFrom s e (b + 1)) (only NONE 0) c hc,
+              suffix-saved s good (barItem s b) (barsFrom s e (b + 1)) (only NONE 0) c hc begun,
               total-least b 0 hb (omega arith),
             )
         | no k ↦ last (omega arith)
@@ -174,9 +173,9 @@ module _ (s : Sheet) (e : ℕ) where
 
       module _ (b : ℕ) (hb : b < e) where
         -- a carry state that is idle is none of them
-        pub path-own : (c : ℕ) → c < carries → OnPath s e b c → Idle s (prefixCosts s b) c → ⊥
+        pub path-own : (c : ℕ) → c < carries → OnPath s e b c → IdleBefore s b c → ⊥
         path-own c hc on (inl h) = omega arith
-        path-own c hc on (inr (some, h)) = path-busy b c (omega arith) some hc on (inr (some, h))
+        path-own c hc on (inr (some, begun, h)) = path-busy b c (omega arith) some hc on (inr (some, begun, h))
 
         -- one leads to the next
         pub path-next : (c m : ℕ) → c < carries → OnPath s e b c

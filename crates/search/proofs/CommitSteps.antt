@@ -23,22 +23,23 @@ use Rattle.search.specs.declared.Found.the-variants.{NoTree, Tree}
 use Rattle.search.specs.Contracts.{barOf, prefixCosts, CutPoint, CutVector, BackwardPre, VectorsFrom, BarsBuildPre, Committed}
 use Rattle.search.specs.Contracts.{CommittedAs, CommitPre, ForwardPre, FoundIn}
 use Rattle.search.proofs.BarLaws.{prefix-low, cut-first, total-last}
+use Rattle.search.proofs.BegunLaws.{idle-begun}
 use Rattle.search.proofs.CommitLaws.{committed-none}
 use Rattle.search.proofs.EnterSteps.{few-bars, bar-stands, at-vec, idle-same}
 use Rattle.search.proofs.PassSteps.{Forwarded, forward-none}
 
 -- ---- `is_cut_point`
 
-pub is-cut-point-told : {s : Sheet} {v : List ℕ} → getD v 0 0 < NONE → Idle s (λ i. getD v i 0) 1 → Idle s (λ i. getD v i 0) 2
-    → Idle s (λ i. getD v i 0) 3 → CutVector s v
+pub is-cut-point-told : {s : Sheet} {v : List ℕ} → getD v 0 0 < NONE → Idle s 1 (λ i. getD v i 0) 1 → Idle s 1 (λ i. getD v i 0) 2
+    → Idle s 1 (λ i. getD v i 0) 3 → CutVector s v
 is-cut-point-told {s} {v} low one two three = record { reached = low; idle = idle }
   where
-    idle : (c : ℕ) → 0 < c → c < carries → Idle s (λ i. getD v i 0) c
+    idle : (c : ℕ) → 0 < c → c < carries → Idle s 1 (λ i. getD v i 0) c
     idle c lo hi = elim (ℕ-discrete c 1) [
-      | yes e ↦ subst (Idle s (λ i. getD v i 0)) (sym e) one
+      | yes e ↦ subst (Idle s 1 (λ i. getD v i 0)) (sym e) one
       | no e ↦ elim (ℕ-discrete c 2) [
-        | yes k ↦ subst (Idle s (λ i. getD v i 0)) (sym k) two
-        | no k ↦ let last : c ≡ 3 = omega arith in subst (Idle s (λ i. getD v i 0)) (sym last) three
+        | yes k ↦ subst (Idle s 1 (λ i. getD v i 0)) (sym k) two
+        | no k ↦ let last : c ≡ 3 = omega arith in subst (Idle s 1 (λ i. getD v i 0)) (sym last) three
       ]
     ]
 
@@ -135,8 +136,9 @@ module _ {s : Sheet} {plan us order rows tree roots vectors : List ℕ} {start c
     going-committed cut-vector told = record {
       forwarded = going-filled (told .sound) .forwarded;
       rising = omega arith;
-      cut = λ c lo hi. idle-same s (λ i. getD v i 0) (prefixCosts s b) c total-is (at-vec (prefixCosts s b) (p .forwarded .is) c hi)
-          (cut-vector .idle c lo hi);
+      cut = λ c lo hi. idle-begun s (h .entry .prepared .good) b c lo hi
+          (idle-same s (λ i. getD v i 0) (prefixCosts s b) c total-is (at-vec (prefixCosts s b) (p .forwarded .is) c hi)
+          (cut-vector .idle c lo hi));
       committed = told .committed;
     }
 

@@ -126,9 +126,9 @@ module _ (s : Sheet) {start : ℕ} (es : start ≡ s .grammar .start) (b : ℕ) 
 pub at-vec : {v : List ℕ} (f : ℕ → ℕ) → v ≡ vec f → (c : ℕ) → c < carries → getD v c 0 ≡ f c
 at-vec f e c h = ap (λ (x : List ℕ). getD x c 0) e ∙ vec-at f c h
 
-pub idle-same : (s : Sheet) (f g : ℕ → ℕ) (c : ℕ) → f 0 ≡ g 0 → f c ≡ g c → Idle s f c → Idle s g c
+pub idle-same : (s : Sheet) {n : ℕ} (f g : ℕ → ℕ) (c : ℕ) → f 0 ≡ g 0 → f c ≡ g c → Idle s n f c → Idle s n g c
 idle-same s f g c z e (inl h) = inl (omega arith)
-idle-same s f g c z e (inr (k, h)) = inr (k, omega arith)
+idle-same s f g c z e (inr (k, begun, h)) = inr (k, begun, omega arith)
 
 module _ {s : Sheet} {plan us rows : List ℕ} {bar : Bar} {start : ℕ} {v : List ℕ} (h : PassPre s plan us rows bar start v) where
   abbrev b : ℕ
@@ -153,11 +153,12 @@ module _ {s : Sheet} {plan us rows : List ℕ} {bar : Bar} {start : ℕ} {v : Li
   }
 
   module _ {c : ℕ} (few : c < carries) where
-    pub pass-idle : {now : List ℕ} → Sound s now → Idle s (λ i. getD v i 0) c → Rooted s now b c (vec (λ _. 64 * NONE))
+    pub pass-idle : {now : List ℕ} → Sound s now → Idle s (bar .first) (λ i. getD v i 0) c → Rooted s now b c (vec (λ _. 64 * NONE))
     pass-idle sound idle = record {
       is = inr (
         idle-same s (λ i. getD v i 0) (prefixCosts s b) c (at-vec (prefixCosts s b) (h .before) 0 (omega arith))
-            (at-vec (prefixCosts s b) (h .before) c few) idle,
+            (at-vec (prefixCosts s b) (h .before) c few)
+            (subst (λ (n : ℕ). Idle s n (λ i. getD v i 0) c) (ap (λ (x : Bar). x .first) (h .bar-is)) idle),
         refl,
       );
       sound = sound;

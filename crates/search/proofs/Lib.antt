@@ -5,4 +5,5 @@ mod BarSteps
 mod CommitSteps
 mod SearchSteps
 mod BarLaws
+mod BegunLaws
 mod CommitLaws

@@ -46,8 +46,7 @@ barsTo s b = adjoining 0 barUnits (replicate b (s .grammar .start))
 abbrev pub barsFrom : Sheet → (e b : ℕ) → List Item
 barsFrom s e b = adjoining (0 + b * barUnits) barUnits (drop b (replicate e (s .grammar .start)))
 
--- what the bars from bar b on that are before bar e total, by the carry state that they are entered with, where nothing is carried on to
--- bar e
+-- what the bars from bar b on that are before bar e total, by the carry state before them; nothing is carried on to bar e
 abbrev pub barSuffixCosts : Sheet → (e b : ℕ) → ℕ → ℕ
 barSuffixCosts s e b = suffixCosts s (barsFrom s e b) (only NONE 0)
 
@@ -86,10 +85,13 @@ pub record PassPre (s : Sheet) (plan units rows : List ℕ) (bar : Bar) (start :
   pub before : v ≡ vec (prefixCosts s (bar .number))
   pub sound : Sound s rows
 
+-- carry state c is idle before bar b
+abbrev pub IdleBefore : Sheet → (b c : ℕ) → Type 0
+IdleBefore s b c = Idle s (firstAt s (b * barUnits)) (prefixCosts s b) c
+
 -- the row of a bar from carry state c, or no tree where c is idle
 abbrev pub RootRow : Sheet → (b c : ℕ) → List ℕ → Type 0
-RootRow s b c y =
-    (y ≡ vec (packedCell s (barItem s b) c)) ⊎ (Idle s (prefixCosts s b) c × (y ≡ vec (λ _. 64 * NONE)))
+RootRow s b c y = (y ≡ vec (packedCell s (barItem s b) c)) ⊎ (IdleBefore s b c × (y ≡ vec (λ _. 64 * NONE)))
 
 -- and the table of rows stays sound
 pub record Rooted (s : Sheet) (rows : List ℕ) (b c : ℕ) (y : List ℕ) : Type 0 where
@@ -110,12 +112,12 @@ pub record PassedBar (s : Sheet) (rows roots : List ℕ) (b : ℕ) (v : List ℕ
 
 -- no least tree carries anything into bar b: every carry state but 0 is idle there
 abbrev pub CutPoint : Sheet → ℕ → Type 0
-CutPoint s b = (c : ℕ) → 0 < c → c < carries → Idle s (prefixCosts s b) c
+CutPoint s b = (c : ℕ) → 0 < c → c < carries → IdleBefore s b c
 
--- the same of a vector of prefix costs, which reaches carry state 0
+-- the same of a vector of prefix costs, which reaches carry state 0, as if an onset lay before: where none does, no other is reached
 pub record CutVector (s : Sheet) (v : List ℕ) : Type 0 where
   pub reached : getD v 0 0 < NONE
-  pub idle : (c : ℕ) → 0 < c → c < carries → Idle s (λ i. getD v i 0) c
+  pub idle : (c : ℕ) → 0 < c → c < carries → Idle s 1 (λ i. getD v i 0) c
 
 -- The bars before bar e are one search of their own, where nothing is carried on to bar e. Some least list of theirs may pass carry state c
 -- before bar b.

@@ -8,11 +8,11 @@ use expansions::PackedUnits;
 use plan::Plan;
 use plan::length_count;
 use plan::nonterminals;
+use rows::carry::idle;
 use rows::slots::Bar;
 use rows::slots::first_behind;
 use rows::slots::store;
 use rows::table::cells;
-use rows::table::idle;
 use rows::vector::NO_CELL;
 use rows::vector::NONE;
 use rows::vector::relax;
@@ -52,7 +52,7 @@ fn root_row<'a>(
         → Rooted s (now (rows .exit)) (bar .number) c y)
         ⌝ }
 {
-    if idle(plan, v, c) {
+    if idle(plan, v, c, bar.first) {
         return [NO_CELL; 4];
     }
     let lo = BAR_UNITS * (bar.number as u32);

@@ -12,9 +12,9 @@ use crate::bars::enter;
 use building::build;
 use expansions::PackedUnits;
 use plan::Plan;
+use rows::carry::idle;
 use rows::slots::load;
 use rows::slots::store;
-use rows::table::idle;
 use rows::vector::NONE;
 use rows::vector::dot;
 use rows::vector::only_at;
@@ -23,7 +23,8 @@ use sheet::BAR_UNITS;
 use sheet::Units;
 use sizes::ITEM_CELLS;
 
-// Whether every least tree carries nothing over the bar line, where v is the prefix costs there.
+// Whether every least tree carries nothing over the bar line, where v is the prefix costs there. Before the first onset no carry state but
+// 0 is reached, so an onset is taken to lie before.
 pub fn is_cut_point(plan: &Plan, v: [u64; 4]) -> bool
     requires { ⌜ Low v × ((s : Sheet) × Prepared s (now plan)) ⌝ }
     ensures { λ r. ⌜ ((s : Sheet) → Prepared s (now (plan .entry)) → r ≡ true → CutVector s v) ⌝ }
@@ -31,9 +32,9 @@ pub fn is_cut_point(plan: &Plan, v: [u64; 4]) -> bool
     if v[0] >= NONE {
         return false;
     }
-    if idle(plan, v, 1) {
-        if idle(plan, v, 2) {
-            if idle(plan, v, 3) {
+    if idle(plan, v, 1, 1) {
+        if idle(plan, v, 2, 1) {
+            if idle(plan, v, 3, 1) {
                 return true;
             }
         }

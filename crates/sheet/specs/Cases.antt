@@ -92,7 +92,7 @@ count-and-range =
     ∷ case (textOf "470200000A\n44000006020101AA\n") 4 2
     ∷ case (textOf "470200000A\n44020006020101\n") 5 2
     ∷ case (textOf "470200000A\n44000006020102\n") 5 2
-    ∷ case (textOf "470200000A\n4C00000104\n") 5 2
+    ∷ case (textOf "470200000A\n4C00000105\n") 5 2
     ∷ case (textOf "471100000A\n") 5 1
     ∷ case (textOf "470202000A\n") 5 1
     ∷ case (grammarS ++ headS ++ textOf "4E0000000080\n") 4 7

@@ -19,11 +19,11 @@ pub record GoodDivision (q h w : ℕ) (ks : List ℕ) : Type 0 where
   pub eight : length ks ≤ 8
   pub parts : Every (λ (x : ℕ). x < q) ks
 
--- a leaf: its head is a nonterminal, and n is 0 to 3
+-- a leaf: its head is a nonterminal, and n is 0 to 4
 pub record GoodLeaf (q h w n : ℕ) : Type 0 where
   pub head : h < q
   pub weight : w ≤ 65535
-  pub three : n ≤ 3
+  pub kind : n ≤ 4
 
 abbrev pub GoodRule : ℕ → Rule → Type 0
 GoodRule q (division h w ks) = GoodDivision q h w ks

@@ -89,7 +89,7 @@ good-division q n l h e =
 
 good-leaf : (q n : ℕ) (l : Line) → Small l → leafRefusal q n l ≡ 0 → GoodRule q (leafOf l)
 unfolding leafOf
-good-leaf q n l h e = let p = leaf-passed q n l e in record { head = p .head; weight = two-small l 2 h; three = p .three }
+good-leaf q n l h e = let p = leaf-passed q n l e in record { head = p .head; weight = two-small l 2 h; kind = p .kind }
 
 pub good-start : (l : Line) → playingRefusal l ≡ 0 → GoodSoFar (timingOf l) (playingOf l) 0
 unfolding playingOf timingOf inBar

@@ -85,7 +85,7 @@ division-passed q n l e =
 
 pub record LeafPassed (q before : ℕ) (l : Line) : Type 0 where
   pub head : byte l 1 < q
-  pub three : byte l 4 ≤ 3
+  pub kind : byte l 4 ≤ 4
   pub room : before < 64
 
 pub leaf-passed : (q before : ℕ) (l : Line) → leafRefusal q before l ≡ 0 → LeafPassed q before l
@@ -93,9 +93,9 @@ unfolding leafRefusal
 leaf-passed q n l e =
     let e₁ = demand-zero (eqb (l .count) 5) 3 _ e .1 in
     let e₂ = demand-zero (ltb (byte l 1) q) 4 _ e₁ in
-    let e₃ = demand-zero (leb (byte l 4) 3) 4 _ (e₂ .1) in
+    let e₃ = demand-zero (leb (byte l 4) 4) 4 _ (e₂ .1) in
     let e₄ = demand-zero (ltb n 64) 7 0 (e₃ .1) in
-    record { head = ltb-true _ _ (e₂ .0); three = leb-true _ _ (e₃ .0); room = ltb-true _ _ (e₄ .0) }
+    record { head = ltb-true _ _ (e₂ .0); kind = leb-true _ _ (e₃ .0); room = ltb-true _ _ (e₄ .0) }
 
 pub record PlayingPassed (l : Line) : Type 0 where
   pub one : 1 ≤ byte l 1

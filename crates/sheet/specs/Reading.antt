@@ -74,12 +74,12 @@ divisionRefusal q before l =
 unfoldable pub divisionOf : Line → Rule
 divisionOf l = division (byte l 1) (two l 2) (bytesFrom (byte l 4) 5 l)
 
--- `4C` leaf, 5 bytes: kind, head, weight (2 bytes, any), n (0 to 3); rule 65 (8)
+-- `4C` leaf, 5 bytes: kind, head, weight (2 bytes, any), n (document 02, (i): "from 0 to 4"); rule 65 (8)
 unfoldable pub leafRefusal : (q before : ℕ) → Line → ℕ
 leafRefusal q before l =
     demand (eqb (l .count) 5) 4
     (demand (ltb (byte l 1) q) 5
-    (demand (leb (byte l 4) 3) 5
+    (demand (leb (byte l 4) 4) 5
     (demand (ltb before 64) 8
     0)))
 

@@ -1,4 +1,4 @@
-// How much a sheet has at most, by document 01, and the arrays that have room for it.
+// How much a sheet has at most, by documents 01 and 02, and the arrays that have room for it.
 
 // The most bytes of a text.
 pub const TEXT_MOST: usize = 16384;
@@ -6,8 +6,14 @@ pub const TEXT_MOST: usize = 16384;
 // The bytes of a line that are held.
 pub const LINE_BYTES: usize = 16;
 
+// The most nonterminals of a grammar.
+pub const NONTERMINALS_MOST: usize = 16;
+
 // The most rules of a grammar.
 pub const RULES_MOST: usize = 64;
+
+// The most that n of a leaf rule is: the kind of a rest.
+pub const KIND_MOST: u8 = 4;
 
 // The most parts of a division.
 pub const PARTS_MOST: usize = 8;

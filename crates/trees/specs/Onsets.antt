@@ -96,6 +96,10 @@ module _ (s : Sheet) where
   unfolding onsetsBefore onsetsIn
   onsets-before u = refl
 
+  -- an onset before a bound lies before each further one
+  pub before-later : (u n : ℕ) → 0 < onsetsBefore s u → 0 < onsetsBefore s (u + n)
+  before-later u n h = omega (arith, onsets-before u, onsets-before (u + n), onsets-add 0 u n)
+
   -- an interval that may be divided has a length, since an onset lies inside
   pub divided-long : (k l n : ℕ) → mayDivide s k l n ≡ true → 0 < n
   divided-long k l zero e = omega (arith, onsets-none l, may-divide s k l 0 e .1)

@@ -1,4 +1,5 @@
--- Valid trees, in the words of document 01's section of that name. What the parser promises about trees is said with these definitions.
+-- Valid trees, in the words of document 01's section of that name and of document 02, where named. What the parser promises about trees is
+-- said with these definitions.
 -- 000 is "A Parse-based Framework for Coupled Rhythm Quantization and Score Structuring", 001 "Modeling and Learning Rhythm Structure".
 use Prim.Native.Nat.{ℕ, zero, suc, _+_, _-_, _*_, _/_, _%_, _≤_}
 use mathlib.Core.Path.{_≡_}
@@ -111,10 +112,15 @@ graceNote = 2
 abbrev pub graceNotes : ℕ
 graceNotes = 3
 
+-- "A leaf with nothing placed and no onset before its left bound is a rest. It needs a leaf rule with n = 4" (document 02, (i))
+abbrev pub rest : ℕ
+rest = 4
+
 -- the kind of a leaf, of which so many onsets are placed and so many lie before its left bound: "With m placed, the leaf rule must have
--- n = m for m up to 2, and n = 3 for m of 3 or more", whatever lies before
+-- n = m for m up to 2, and n = 3 for m of 3 or more"; with nothing placed and none before, it is a rest, "and n = 0 no longer fits it"
 abbrev pub token : (placed before : ℕ) → ℕ
-token zero b = continuation
+token zero zero = rest
+token zero (suc b) = continuation
 token (suc zero) b = note
 token (suc (suc zero)) b = graceNote
 token (suc (suc (suc m))) b = graceNotes

@@ -1,1 +1,1 @@
-// Laws alone, in specs/: document 01's valid trees and their prices, and what holds of every accepted sheet.
+// Laws alone, in specs/: the valid trees of documents 01 and 02 and their prices, and what holds of every accepted sheet.

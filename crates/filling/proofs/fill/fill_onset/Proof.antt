@@ -1,7 +1,8 @@
 -- `fill_onset` meets its contract: before the turn of length l - 1 the cells of the lengths from l on are filled where the onset is alone,
 -- and the table is sound (`FilledAt`). Assumes nothing.
-use Prim.Native.Nat.{_≤_}
+use Prim.Native.Nat.{_≤_, _<_}
 use mathlib.Core.Path.{refl, sym, _∙_}
+use native.Mathlib.Omega.{arith}
 use Rattle.sheet.specs.Sheet.{Sheet}
 use Rattle.plan.specs.Plan.{lengths}
 use Rattle.filling.specs.Filling.{OnsetEntry, FilledAt}
@@ -18,6 +19,9 @@ Inv-loop plan units order rows₀ pairs₀ bar from best₀ l₀ rows pairs best
 abbrev μ-loop : tie.MeasureT-loop
 μ-loop plan units order rows₀ pairs₀ bar from best₀ l₀ rows pairs best l = l
 
+returns : tie.Need-returns Inv-loop μ-loop
+returns c = λ s e. record { sound = e .sound; size = e .size }
+
 length-count-requires : tie.Need-length-count-requires Inv-loop μ-loop
 length-count-requires c κs = search needs
 
@@ -31,42 +35,47 @@ sub-l c = search needs
 
 slice-aggregate-fill-at : tie.Need-slice-aggregate-fill-at Inv-loop μ-loop
 slice-aggregate-fill-at c =
-    let start = c .before .before .before .before .before .before .before .before in
-    let loop = c .before .before .before .before .loop in
-    sym (loop .inv _ (start .pre .1) .1 .size)
+    let at-loop = c .before .before .before .before in
+    let start = at-loop .before .before .before .before .before in
+    sym (at-loop .loop .inv _ (start .pre .1) .1 .size)
 
 fill-at-requires : tie.Need-fill-at-requires Inv-loop μ-loop
 fill-at-requires c κs =
-    let start = c .before .before .before .before .before .before .before .before in
-    let loop = c .before .before .before .before .loop in
-    let loop-test = c .before .before .before .loop-test in
+    let at-test = c .before .before .before in
+    let at-loop = at-test .before in
+    let at-later = at-loop .before .before in
+    let start = at-later .before .before .before in
     let e = start .pre .1 in
-    (start .pre .0, onset-asked e (loop-test .taken) (loop .inv _ e))
+    (start .pre .0, onset-asked e (omega (arith, at-later .if1 .left)) (at-test .loop-test .taken) (at-loop .loop .inv _ e))
 
 loop-less : tie.Need-loop-less Inv-loop μ-loop
 loop-less c = search needs
 
 loop-again : tie.Need-loop-again Inv-loop μ-loop
 loop-again c =
-    let loop = c .before .before .before .before .before .before .before .before .before .before .loop in
-    let loop-test = c .before .before .before .before .before .before .before .before .before .loop-test in
-    let fill-at = c .before .before .before .before .before .fill-at in
-    λ s e. onset-more e (loop-test .taken) (loop .inv s e) (fill-at .ensures s (onset-asked e (loop-test .taken) (loop .inv s e)))
+    let at-fill = c .before .before .before .before .before in
+    let at-test = at-fill .before .before .before .before in
+    let at-loop = at-test .before in
+    let at-later = at-loop .before .before in
+    let taken = at-test .loop-test .taken in
+    λ s e.
+    let begun : 0 < at-later .before .before .before .args .from = omega (arith, at-later .if1 .left) in
+    onset-more e begun taken (at-loop .loop .inv s e) (at-fill .fill-at .ensures s (onset-asked e begun taken (at-loop .loop .inv s e)))
 
 same-length : tie.Need-same-length Inv-loop μ-loop
 same-length c =
-    let start = c .before .before .before .before .before in
+    let start = c .before .before .before .before .before .before in
     let loop = c .before .loop in
     loop .inv _ (start .pre .1) .1 .sound .size ∙ sym (start .pre .1 .sound .size)
 
 same-length-2 : tie.Need-same-length-2 Inv-loop μ-loop
 same-length-2 c =
-    let start = c .before .before .before .before .before in
+    let start = c .before .before .before .before .before .before in
     let loop = c .before .loop in
     loop .inv _ (start .pre .1) .1 .filled .size ∙ sym (start .pre .1 .size)
 
-returns : tie.Need-returns Inv-loop μ-loop
-returns c =
+returns-2 : tie.Need-returns-2 Inv-loop μ-loop
+returns-2 c =
     let loop = c .before .loop in
     λ s e. record { sound = loop .inv s e .1 .sound; size = loop .inv s e .1 .filled .size }
 
@@ -76,6 +85,7 @@ fill-onset-spec =
     (tie.spec
     Inv-loop
     μ-loop
+    returns
     length-count-requires
     loop-holds
     sub-l
@@ -85,4 +95,4 @@ fill-onset-spec =
     loop-again
     same-length
     same-length-2
-    returns)
+    returns-2)

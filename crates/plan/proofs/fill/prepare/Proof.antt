@@ -7,6 +7,7 @@ use mir.Val.{Fits}
 use lib.ListN.{getD}
 use native.Mathlib.Omega.{arith}
 use Rattle.plan.proofs.PlanSteps.{Cells, cells-next, few-rules, few-heads, length-cells, tables-of, prepared}
+use Rattle.plan.specs.Layout.{planCells}
 use Rattle.plan.specs.Sections.{Small}
 use borrow.Author.Needs.{needs}
 use Rattle.plan.proofs.fill.prepare.Statement.{statement}
@@ -14,10 +15,10 @@ use Rattle.plan.proofs.fill.prepare.Tie as tie
 
 abbrev Inv-loop : tie.InvT-loop
 Inv-loop rules children a leaves lens count n heads plan₀ i₀ plan i =
-    (i ≤ 3055) × Cells rules children leaves lens a heads count n plan i
+    (i ≤ planCells) × Cells rules children leaves lens a heads count n plan i
 
 abbrev μ-loop : tie.MeasureT-loop
-μ-loop rules children a leaves lens count n heads plan₀ i₀ plan i = 3055 - i
+μ-loop rules children a leaves lens count n heads plan₀ i₀ plan i = planCells - i
 
 pack-rules-requires : tie.Need-pack-rules-requires Inv-loop μ-loop
 pack-rules-requires c κs = search needs

@@ -1,6 +1,7 @@
 -- `section_at` meets its contract: the tests tell the section that the cell is in, and its place there. Assumes nothing.
 use Prim.Native.Nat.{_-_}
 use native.Mathlib.Omega.{arith}
+use Rattle.plan.specs.Layout.{childrenAt, lengthsAt}
 use Rattle.plan.proofs.SectionSteps.{at-child, at-leaf, at-length, at-part, at-first, at-last, zero-parts, no-parts}
 use borrow.Author.Needs.{needs}
 use Rattle.plan.proofs.fill.section_at.Statement.{statement}
@@ -19,7 +20,7 @@ element-copy-out-result-2 : tie.Need-element-copy-out-result-2
 element-copy-out-result-2 c = search needs
 
 cast-result : tie.Need-cast-result
-cast-result c = let start = c .before .before .before in omega (arith, start .pre .2 (start .args .i - 64))
+cast-result c = let start = c .before .before .before in omega (arith, start .pre .2 (start .args .i - childrenAt))
 
 returns-2 : tie.Need-returns-2
 returns-2 c = at-child _ _ _ _ _ _ _ (c .before .before .if1 .left) (c .before .if2 .taken)
@@ -40,7 +41,7 @@ element-copy-out-result-4 : tie.Need-element-copy-out-result-4
 element-copy-out-result-4 c = search needs
 
 cast-result-2 : tie.Need-cast-result-2
-cast-result-2 c = let start = c .before .before .before .before .before in omega (arith, start .pre .3 (start .args .i - 640))
+cast-result-2 c = let start = c .before .before .before .before .before in omega (arith, start .pre .3 (start .args .i - lengthsAt))
 
 returns-4 : tie.Need-returns-4
 returns-4 c = at-length _ _ _ _ _ _ _ (c .before .before .if3 .left) (c .before .if4 .taken)

@@ -1,6 +1,7 @@
 -- `leaf_beside` meets its contract: the tests tell where part i is. Assumes nothing.
 use Prim.Native.Nat.{_+_, _*_}
 use native.Mathlib.Omega.{arith}
+use Rattle.plan.specs.Layout.{kinds}
 use Rattle.plan.specs.PlanLaws.{token-below}
 use Rattle.plan.proofs.WaySteps.{beside-itself, beside-past, right-behind, elsewhere}
 use borrow.Author.Needs.{needs}
@@ -47,7 +48,7 @@ returns-3 c =
     let start = c .before .before .before .before .before in
     let told = start .args in
     let kind = c .before .token-of in (
-      omega (arith, start .pre .2 (4 * told .q + kind .result)),
+      omega (arith, start .pre .2 (kinds * told .q + kind .result)),
       right-behind (told .leaves .now) (told .q) (told .i) (told .j) (told .n) (kind .result) (kind .ensures)
           (c .before .before .before .before .if1 .left) (c .before .before .if3 .taken),
     )
@@ -75,7 +76,7 @@ returns-4 c =
     let start = c .before .before .before .before .before in
     let told = start .args in
     let kind = c .before .token-of2 in (
-      omega (arith, start .pre .2 (4 * told .q + kind .result)),
+      omega (arith, start .pre .2 (kinds * told .q + kind .result)),
       elsewhere (told .leaves .now) (told .q) (told .i) (told .j) (told .n) (kind .result) (kind .ensures)
           (c .before .before .before .before .if1 .left) (c .before .before .if3 .left),
     )

@@ -1,15 +1,17 @@
 -- `lift`: an idle carry state lowers nothing (`taken-skip`); else the row that is loaded, or solved, is the item's (`lift-more`).
 use Prim.Native.Nat.{ℕ}
+use mathlib.Core.Path.{subst}
 use native.Mathlib.Omega.{arith}
+use lib.ListN.{getD}
 use borrow.Author.Needs.{needs}
 use Rattle.rows.specs.NameLaws.{stands-bar, solve-room, solve-loaded}
 use Rattle.rows.specs.TurnLaws.{row-low}
-use Rattle.rows.specs.IdleLaws.{taken-skip}
+use Rattle.rows.specs.IdleLaws.{Idle, taken-skip}
 use Rattle.rows.specs.CallLaws.{lift-slot, lift-solve, lift-more}
 use Rattle.rows.proofs.table.lift.Reads as lift
 use Rattle.rows.proofs.table.+fresh+lift+part+parts+solve.Lts-lift as lift-lts
 use Rattle.rows.proofs.table.fresh.Reads as fresh
-use Rattle.rows.proofs.table.idle_at.Reads as idle-at-reads
+use Rattle.rows.proofs.carry.idle_at.Reads as idle-at-reads
 use Rattle.rows.proofs.slots.held.Reads as held-reads
 use Rattle.rows.proofs.slots.load.Reads as load-reads
 use Rattle.rows.proofs.slots.place_of.Reads as place-of-reads
@@ -46,10 +48,12 @@ module _ (t : ℕ) where
   pub returns : lift-lts.Need-returns calls (lift-at t) lift.Post
   returns c =
       let idle-at = c .before .idle-at in
+      let start = c .before .before .before in
       λ s v h.
       let prepared = h .stands .in-bar .prepared in
       let idle = idle-at .ensures s v prepared (h .zero-is) (h .total-is) (c .if1 .taken) in
-      taken-skip s (prepared .good) _ (h .few) (h .taken) idle
+      taken-skip s (prepared .good) _ (h .few) (h .taken)
+      (subst (λ (b : ℕ). Idle s b (λ i. getD v i 0) (start .args .c)) (h .stands .first) idle)
 
   pub place-of-requires : lift-lts.Need-place-of-requires calls (lift-at t) lift.Post
   place-of-requires c κs =

@@ -14,9 +14,9 @@ use Rattle.rows.specs.CallLaws.{leaf-asked, dot-asked, part-empty, lift-
 use Rattle.rows.proofs.table.lift.Reads as lift
 use Rattle.rows.proofs.table.part.Reads as part
 use Rattle.rows.proofs.table.+fresh+lift+part+parts+solve.Lts-part as part-lts
-use Rattle.rows.proofs.table.least_placed.Reads as least-placed-reads
+use Rattle.rows.proofs.leaf.least_placed.Reads as least-placed-reads
 use Rattle.rows.proofs.vector.dot.Reads as dot-reads
-use Rattle.rows.proofs.table.reached.Reads as reached-reads
+use Rattle.rows.proofs.carry.reached.Reads as reached-reads
 use Rattle.rows.proofs.table.+fresh+lift+part+parts+solve.Proof.Measures.{lift-below, part-at}
 
 abbrev pub Inv-loop : part-lts.InvT-loop

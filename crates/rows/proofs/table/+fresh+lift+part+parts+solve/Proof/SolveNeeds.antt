@@ -20,7 +20,7 @@ use Rattle.plan.proofs.first_division.Reads as first-division-reads
 use Rattle.plan.proofs.last_division.Reads as last-division-reads
 use Rattle.plan.proofs.length.Reads as length-reads
 use Rattle.plan.proofs.split_at.Reads as split-at-reads
-use Rattle.rows.proofs.table.leaf_row.Reads as leaf-row-reads
+use Rattle.rows.proofs.leaf.leaf_row.Reads as leaf-row-reads
 use Rattle.rows.proofs.slots.store.Reads as store-reads
 use Rattle.rows.proofs.vector.relax_rule.Reads as relax-rule-reads
 use Rattle.rows.proofs.table.+fresh+lift+part+parts+solve.Proof.Measures.{parts-below, solve-at}

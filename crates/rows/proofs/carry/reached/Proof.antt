@@ -1,8 +1,8 @@
 -- `reached` meets its contract: each total that is tested and not below the cap is of a carry state that is not reached. Assumes nothing.
 use borrow.Author.Needs.{needs}
 use Rattle.rows.specs.IdleLaws.{reached-all, reached-less}
-use Rattle.rows.proofs.table.reached.Statement.{statement}
-use Rattle.rows.proofs.table.reached.Tie as tie
+use Rattle.rows.proofs.carry.reached.Statement.{statement}
+use Rattle.rows.proofs.carry.reached.Tie as tie
 
 array-read-if1 : tie.Need-array-read-if1
 array-read-if1 c = search needs

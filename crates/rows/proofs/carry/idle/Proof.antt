@@ -1,11 +1,11 @@
 -- `idle` meets its contract, by `idle_at`. Assumes nothing.
 use mathlib.Core.Path.{refl}
 use borrow.Author.Needs.{needs}
-use Rattle.rows.proofs.table.idle.Statement.{statement}
-use Rattle.rows.proofs.table.idle.Tie as tie
-use Rattle.rows.proofs.table.idle.Reads as reads
-use Rattle.rows.proofs.table.idle.Lts as lts
-use Rattle.rows.proofs.table.idle_at.Reads as idle-at-reads
+use Rattle.rows.proofs.carry.idle.Statement.{statement}
+use Rattle.rows.proofs.carry.idle.Tie as tie
+use Rattle.rows.proofs.carry.idle.Reads as reads
+use Rattle.rows.proofs.carry.idle.Lts as lts
+use Rattle.rows.proofs.carry.idle_at.Reads as idle-at-reads
 
 array-read-idle-at : tie.Need-array-read-idle-at
 array-read-idle-at c = search needs

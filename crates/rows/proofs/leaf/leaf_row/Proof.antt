@@ -2,8 +2,8 @@
 -- looked up; more than three late onsets leave no carry state. Assumes nothing.
 use borrow.Author.Needs.{needs}
 use Rattle.rows.specs.LeafLaws.{few-early, near, kind-asked, cost-most, leaf-row-is, leaf-row-none}
-use Rattle.rows.proofs.table.leaf_row.Statement.{statement}
-use Rattle.rows.proofs.table.leaf_row.Tie as tie
+use Rattle.rows.proofs.leaf.leaf_row.Statement.{statement}
+use Rattle.rows.proofs.leaf.leaf_row.Tie as tie
 
 place-requires : tie.Need-place-requires
 place-requires c κs = (c .pre .0, c .pre .1 .entered .here)

@@ -11,8 +11,8 @@ use Rattle.plan.specs.Plan.{savedAt}
 use Rattle.plan.specs.PlanLaws.{token-below}
 use Rattle.plan.specs.Sections.{PackedLeaves}
 use Rattle.plan.proofs.SavedSteps.{largest-none, largest-next, saved-cell}
-use Rattle.plan.proofs.fill.saved_at.Statement.{statement}
-use Rattle.plan.proofs.fill.saved_at.Tie as tie
+use Rattle.plan.proofs.leaves.saved_at.Statement.{statement}
+use Rattle.plan.proofs.leaves.saved_at.Tie as tie
 
 abbrev Inv-loop : tie.InvT-loop
 Inv-loop leaves q c most₀ e₀ most e = (e ≤ 4) × ((s : Sheet) → GoodRules (s .grammar) → PackedLeaves s leaves

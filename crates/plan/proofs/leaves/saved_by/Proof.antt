@@ -10,8 +10,8 @@ use Rattle.sizes.specs.Sizes.{largest}
 use Rattle.plan.specs.Plan.{savedAt}
 use Rattle.plan.specs.Sections.{PackedLeaves}
 use Rattle.plan.proofs.SavedSteps.{largest-none, largest-next, saved-all}
-use Rattle.plan.proofs.fill.saved_by.Statement.{statement}
-use Rattle.plan.proofs.fill.saved_by.Tie as tie
+use Rattle.plan.proofs.leaves.saved_by.Statement.{statement}
+use Rattle.plan.proofs.leaves.saved_by.Tie as tie
 
 abbrev Inv-loop : tie.InvT-loop
 Inv-loop leaves heads c most₀ q₀ most q =

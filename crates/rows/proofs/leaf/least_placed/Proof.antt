@@ -5,8 +5,8 @@ use native.Mathlib.Omega.{arith}
 use Rattle.plan.specs.Plan.{leafCell}
 use Rattle.plan.specs.PlanLaws.{token-below}
 use borrow.Author.Needs.{needs}
-use Rattle.rows.proofs.table.least_placed.Statement.{statement}
-use Rattle.rows.proofs.table.least_placed.Tie as tie
+use Rattle.rows.proofs.leaf.least_placed.Statement.{statement}
+use Rattle.rows.proofs.leaf.least_placed.Tie as tie
 
 token-of-requires : tie.Need-token-of-requires
 token-of-requires c κs = search needs

@@ -4,15 +4,16 @@ use Prim.Native.Nat.{_-_, _≤_}
 use mathlib.Core.Path.{_≡_, refl}
 use native.Mathlib.Omega.{arith}
 use lib.ListN.{length}
+use Rattle.plan.specs.Layout.{leafCells}
 use Rattle.plan.proofs.LeafSteps.{Lowered, packed-none, packed-all}
 use Rattle.plan.proofs.LeafSteps.{lowered-division, lowered-past, lowered-kept, lowered-set}
 use Rattle.plan.proofs.RuleSteps.{weighted-most}
 use borrow.Author.Needs.{needs}
-use Rattle.plan.proofs.fill.least_leaves.Statement.{statement}
-use Rattle.plan.proofs.fill.least_leaves.Tie as tie
+use Rattle.plan.proofs.leaves.least_leaves.Statement.{statement}
+use Rattle.plan.proofs.leaves.least_leaves.Tie as tie
 
 abbrev Inv-loop : tie.InvT-loop
-Inv-loop rules a count leaves₀ r₀ leaves r = (r ≤ count) × (length leaves ≡ 64) × Lowered rules a leaves r
+Inv-loop rules a count leaves₀ r₀ leaves r = (r ≤ count) × (length leaves ≡ leafCells) × Lowered rules a leaves r
 
 abbrev μ-loop : tie.MeasureT-loop
 μ-loop rules a count leaves₀ r₀ leaves r = count - r
