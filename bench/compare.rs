@@ -4,6 +4,7 @@
 //! Arguments, all optional: a part, `reading`, `pricing` or `finding` (all
 //! without it), then a seed and a number of inputs for each part.
 
+mod features;
 mod finding;
 mod harness;
 mod library;

@@ -1,9 +1,11 @@
-//! Compares the library's finding of a least tree with the peer's on generated
-//! sheets, then times both on fixed ones. Which least tree is found is left
-//! free, so a tree is held to its price, and only its total to the peer's.
+//! Compares the library's finding of the first least tree with the peer's on
+//! generated sheets, then times both on fixed ones. Compared are number, line,
+//! node count, R, D and total, the tree's bytes, and what the slices keep. The
+//! figures expected are the price of the peer's tree, to which its total is held.
 
+use crate::features::Features;
 use crate::harness::{self, dirt, same, Difference, Outcomes};
-use crate::peer::{self, Sheet, BAR_UNITS, REST};
+use crate::peer::{self, Sheet};
 use crate::search::Search;
 use crate::sheets::{Case, Dice};
 use crate::trees::{self, Price};
@@ -17,7 +19,8 @@ const NO_TREE: u8 = 11;
 /// Cells and bytes before and after a lent slice, which must be kept too.
 const AROUND: usize = 16;
 
-/// Gives whether no difference was found and every outcome occurred.
+/// Gives whether no difference was found, every outcome occurred and enough trees
+/// were the first of several.
 pub fn run(seed: u64, sheets: usize) -> bool {
     println!("Comparing trees found by the library and the peer on {sheets} sheets, seed {seed}.");
     let Some(counts) = compare_all(seed, sheets) else {
@@ -27,7 +30,8 @@ pub fn run(seed: u64, sheets: usize) -> bool {
     counts.outcomes.print();
     counts.features.print();
     time_all();
-    counts.outcomes.all_met()
+    let outcomes = counts.outcomes.all_met();
+    counts.features.equals_met() && outcomes
 }
 
 /// The peer's entry, with what the library's gives. Kept out of line, as that is.
@@ -91,16 +95,22 @@ fn compare_all(seed: u64, sheets: usize) -> Option<Counts> {
     Some(counts)
 }
 
-/// What a call must give, apart from which tree.
-struct Expected<'a> {
-    number: u8,
-    line: u16,
-    /// Only after a tree.
-    total: u64,
+/// What a call must give.
+struct Expected {
+    answer: [u64; 6],
+    tree: Vec<u8>,
     /// The work cells that must be 0.
     cleared: usize,
-    /// Only of an accepted text.
-    sheet: Option<&'a Sheet>,
+}
+
+impl Expected {
+    fn refusal(number: u8, line: u16) -> Expected {
+        Expected {
+            answer: [number.into(), line.into(), 0, 0, 0, 0],
+            tree: Vec::new(),
+            cleared: 0,
+        }
+    }
 }
 
 fn compare(
@@ -114,24 +124,24 @@ fn compare(
         let outcome = *read.as_ref().err().unwrap_or(&(0, 0));
         same("the peer's refusal and line", outcome, aim)?;
     }
-    let sheet = match &read {
+    let mut sheet = match read {
         Ok(sheet) => sheet,
         Err((number, line)) => {
             let lengths = (dice.pick(&[0, 1, 200]), dice.pick(&[0, 1, 500]));
-            let expected = Expected::refusal(*number, *line);
+            let expected = Expected::refusal(number, line);
             return compare_call(dice, &case.text, lengths, &expected, counts);
         }
     };
-    let (bytes, cells) = (peer::tree_bytes(sheet), peer::work_cells(sheet));
+    let (bytes, cells) = (peer::tree_bytes(&sheet), peer::work_cells(&sheet));
     let (bytes, cells) = (bytes as usize, cells as usize);
-    let least = search.find(sheet);
-    let expected = Expected {
-        number: if least.is_some() { 0 } else { NO_TREE },
-        line: 0,
-        total: least.unwrap_or(0),
-        cleared: cells,
-        sheet: Some(sheet),
-    };
+    let mut expected = Expected::refusal(NO_TREE, 0);
+    expected.cleared = cells;
+    if let Some((tree, price)) = found(search, &sheet)? {
+        let last = last_least(search, &mut sheet, price.total)?;
+        counts.features.add(&sheet, &tree, &last);
+        expected.answer = [0, 0, price.nodes, price.r, price.d, price.total];
+        expected.tree = tree;
+    }
     let lengths = (longer(dice, bytes), longer(dice, cells));
     compare_call(dice, &case.text, lengths, &expected, counts)?;
     for (lengths, number) in short_lengths(dice, bytes, cells) {
@@ -141,16 +151,36 @@ fn compare(
     Ok(())
 }
 
-impl Expected<'_> {
-    fn refusal(number: u8, line: u16) -> Self {
-        Expected {
-            number,
-            line,
-            total: 0,
-            cleared: 0,
-            sheet: None,
-        }
+/// The peer's tree and its price, if there is one.
+fn found(search: &mut Search, sheet: &Sheet) -> Result<Option<(Vec<u8>, Price)>, Difference> {
+    let Some(total) = search.find(sheet) else {
+        return Ok(None);
+    };
+    let mut tree = vec![0; peer::tree_bytes(sheet) as usize];
+    let nodes = search.write_tree(&mut tree);
+    tree.truncate(nodes);
+    let price = trees::price(sheet, &tree);
+    let asked = "the peer's total beside the price of its tree";
+    same(asked, Some(total), price.map(|price| price.total))?;
+    Ok(price.map(|price| (tree, price)))
+}
+
+/// The last of the least trees, which is the first by the rules in reverse: another
+/// one exactly where there are several.
+fn last_least(search: &mut Search, sheet: &mut Sheet, total: u64) -> Result<Vec<u8>, Difference> {
+    sheet.rules.reverse();
+    let found = found(search, sheet);
+    sheet.rules.reverse();
+    let (mut tree, price) = found?.unwrap_or_default();
+    same(
+        "the peer's total by the rules in reverse",
+        price.total,
+        total,
+    )?;
+    for rule in &mut tree {
+        *rule = sheet.rules.len() as u8 - 1 - *rule;
     }
+    Ok(tree)
 }
 
 /// The required length, or a longer one.
@@ -192,43 +222,14 @@ fn compare_call(
     let lent_work = &mut work[AROUND..AROUND + cells];
     let answer = library::find(text, lent_tree, lent_work);
     let asked = format!("rhythm_find with {bytes} bytes and {cells} cells");
-    let outcome = (expected.number.into(), expected.line.into());
-    same(&asked, (answer[0], answer[1]), outcome)?;
-    let mut nodes = 0;
-    match expected.sheet {
-        Some(sheet) if expected.number == 0 => {
-            same(&format!("{asked}, the total"), answer[5], expected.total)?;
-            nodes = compare_price(&asked, sheet, &answer, lent_tree)?;
-            counts.features.add(sheet, &lent_tree[..nodes]);
-        }
-        _ => same(&asked, &answer[2..], &[0; 4])?,
-    }
+    same(&asked, answer, expected.answer)?;
     let mut tree_after = tree_before;
-    tree_after[AROUND..][..nodes].copy_from_slice(&tree[AROUND..][..nodes]);
+    tree_after[AROUND..][..expected.tree.len()].copy_from_slice(&expected.tree);
     let mut work_after = work_before;
     work_after[AROUND..][..expected.cleared].fill(0);
     same_slices(&format!("{asked}, tree byte"), &tree, &tree_after)?;
     same_slices(&format!("{asked}, work cell"), &work, &work_after)?;
     counts.outcomes.add(answer[0])
-}
-
-/// Holds the figures given to the price of the tree handed back, by the peer;
-/// gives the number of its bytes.
-fn compare_price(
-    asked: &str,
-    sheet: &Sheet,
-    answer: &[u64; 6],
-    tree: &[u8],
-) -> Result<usize, Difference> {
-    let &[_, _, nodes, r, d, total] = answer;
-    let given = Price { nodes, r, d, total };
-    let length = usize::try_from(nodes).unwrap_or(usize::MAX);
-    let price = tree
-        .get(..length)
-        .and_then(|list| trees::price(sheet, list));
-    let asked = format!("{asked}, figures beside the price of its tree");
-    same(&asked, Some(given), price)?;
-    Ok(length)
 }
 
 fn same_slices<T: PartialEq + std::fmt::Debug>(
@@ -261,157 +262,6 @@ fn dirty_cells(dice: &mut Dice, length: usize) -> Vec<u64> {
             cells.collect()
         }
     }
-}
-
-// What was met.
-
-/// How many trees handed back show what a search can get wrong.
-#[derive(Default)]
-struct Features {
-    trees: usize,
-    over_part: usize,
-    over_bar: usize,
-    two_over_bar: usize,
-    chord: usize,
-    crowded: usize,
-    empty_bar: usize,
-    opens_with_rest: usize,
-    opens_with_silent_bar: usize,
-    rest_in_division: usize,
-    rest_over_late: usize,
-    no_multiplier: usize,
-    largest_multiplier: usize,
-    dense: usize,
-    arities: [usize; 9],
-    most_nodes: usize,
-}
-
-impl Features {
-    fn add(&mut self, sheet: &Sheet, list: &[u8]) {
-        let leaves = leaves(sheet, list);
-        let carried = carried(sheet, &leaves);
-        let over_bar = |&&left: &&u32| left % BAR_UNITS == 0;
-        let most = carried.iter().filter(over_bar).map(|left| {
-            let same = carried.iter().filter(|&other| other == left);
-            same.count()
-        });
-        let most = most.max().unwrap_or(0);
-        let units: Vec<u32> = sheet.onsets.iter().map(|onset| onset.0).collect();
-        let inhabited = |bar: u32| units.iter().any(|unit| unit / BAR_UNITS == bar);
-        self.trees += 1;
-        self.over_part += usize::from(!carried.is_empty());
-        self.over_bar += usize::from(most > 0);
-        self.two_over_bar += usize::from(most > 1);
-        self.chord += usize::from(units.windows(2).any(|pair| pair[0] == pair[1]));
-        self.empty_bar += usize::from(!(0..sheet.bars.into()).all(inhabited));
-        self.no_multiplier += usize::from(sheet.multiplier == 0);
-        self.largest_multiplier += usize::from(sheet.multiplier == u16::MAX);
-        self.dense += usize::from(is_dense(sheet));
-        self.most_nodes = self.most_nodes.max(list.len());
-        self.add_rests(sheet, &leaves);
-        self.add_rules(sheet, list);
-    }
-
-    fn add_rests(&mut self, sheet: &Sheet, leaves: &[Leaf]) {
-        let rests = leaves.iter().filter(|leaf| leaf.n == REST.into());
-        let rests: Vec<&Leaf> = rests.collect();
-        let late = |leaf: &&Leaf| {
-            let inside = leaf.left..leaf.left + leaf.length;
-            sheet.onsets.iter().any(|onset| inside.contains(&onset.0))
-        };
-        self.opens_with_rest += usize::from(leaves[0].n == REST.into());
-        self.opens_with_silent_bar += usize::from(sheet.onsets[0].0 >= BAR_UNITS);
-        self.rest_in_division += usize::from(rests.iter().any(|leaf| leaf.length < BAR_UNITS));
-        self.rest_over_late += usize::from(rests.iter().any(late));
-    }
-
-    fn add_rules(&mut self, sheet: &Sheet, list: &[u8]) {
-        let mut crowded = false;
-        let mut arities = [false; 9];
-        for &number in list {
-            match sheet.rules[usize::from(number)] {
-                peer::Rule::Leaf { n, .. } => crowded |= n == 3,
-                peer::Rule::Division { arity, .. } => arities[usize::from(arity)] = true,
-            }
-        }
-        self.crowded += usize::from(crowded);
-        for (count, met) in self.arities.iter_mut().zip(arities) {
-            *count += usize::from(met);
-        }
-    }
-
-    fn print(&self) {
-        println!("  trees handed back: {}, of which", self.trees);
-        for (feature, count) in [
-            ("carry over a part's bound", self.over_part),
-            ("carry over a bar line", self.over_bar),
-            ("carry two or three over a bar line", self.two_over_bar),
-            ("have onsets at one unit", self.chord),
-            ("place three or more at a leaf", self.crowded),
-            ("have an empty bar", self.empty_bar),
-            ("open with a rest", self.opens_with_rest),
-            ("open with a silent bar", self.opens_with_silent_bar),
-            ("have a rest as a division's part", self.rest_in_division),
-            ("have a rest with a late onset inside", self.rest_over_late),
-            ("have multiplier 0", self.no_multiplier),
-            ("have multiplier 65,535", self.largest_multiplier),
-            ("have three divisions a head or more", self.dense),
-        ] {
-            println!("    {count:>6} {feature}");
-        }
-        for (arity, count) in self.arities.iter().enumerate().skip(2) {
-            println!("    {count:>6} divide by {arity}");
-        }
-        println!("  largest tree: {} nodes", self.most_nodes);
-    }
-}
-
-/// Whether there are three divisions, or more, to each nonterminal that has one.
-fn is_dense(sheet: &Sheet) -> bool {
-    let mut heads = [false; 16];
-    let mut divisions = 0;
-    for rule in &sheet.rules {
-        if let peer::Rule::Division { head, .. } = rule {
-            heads[usize::from(*head)] = true;
-            divisions += 1;
-        }
-    }
-    let heads = heads.into_iter().filter(|&divides| divides).count();
-    divisions > 0 && 3 * heads <= divisions
-}
-
-/// A leaf's line of a score, without its pitches.
-struct Leaf {
-    left: u32,
-    length: u32,
-    n: u32,
-    placed: u32,
-}
-
-/// The leaves of a valid tree, taken from its score.
-fn leaves(sheet: &Sheet, list: &[u8]) -> Vec<Leaf> {
-    let text = trees::score(sheet, list).expect("the tree is valid");
-    let text = String::from_utf8(text).expect("a score is digits");
-    let field = |digits: &str| u32::from_str_radix(digits, 16).expect("a field is digits");
-    let leaf = |line: &str| Leaf {
-        left: field(&line[2..10]),
-        length: field(&line[10..14]),
-        n: field(&line[14..16]),
-        placed: field(&line[16..18]),
-    };
-    text.lines().skip(1).map(leaf).collect()
-}
-
-/// The places of the onsets carried.
-fn carried(sheet: &Sheet, leaves: &[Leaf]) -> Vec<u32> {
-    let mut onsets = sheet.onsets.iter();
-    let mut places = Vec::new();
-    for leaf in leaves {
-        let placed = onsets.by_ref().take(leaf.placed as usize);
-        let carried = placed.filter(|onset| onset.0 < leaf.left);
-        places.extend(carried.map(|_| leaf.left));
-    }
-    places
 }
 
 // Timing.

@@ -1,31 +1,40 @@
-//! The least total by listing all trees of a sheet, and the tests that hold the
-//! peer's search to it. Written from documents 01 and 02 without any table, so
-//! that it shares nothing with the search but the reading of the sheet.
+//! The first of the least trees by listing all trees of a sheet. Written from
+//! documents 01 and 02 without any table, so that it shares nothing with the
+//! search but the reading of the sheet.
 
-use crate::peer::{self, Rule, Sheet, BAR_UNITS, REST};
-use crate::search::Search;
-use crate::sheets::Dice;
-use crate::{takes, trees};
+use crate::peer::{Rule, Sheet, BAR_UNITS, REST};
 
 /// An interval still to be parsed under a nonterminal.
 type Item = (u8, u32, u32);
 
-/// A tree begun: the intervals still open, the next on top, and what is carried
-/// to it.
+/// The least trees listed.
+pub struct Least {
+    pub total: u64,
+    /// The first in dictionary order.
+    pub first: Vec<u8>,
+    pub count: usize,
+    /// The fewest bytes of any.
+    pub shortest: usize,
+}
+
+/// A tree begun: its bytes, the intervals still open, the next on top, and what
+/// is carried to it.
 struct Listing<'a> {
     sheet: &'a Sheet,
+    list: Vec<u8>,
     open: Vec<Item>,
-    least: Option<u64>,
+    least: Option<Least>,
     /// Rules still to be tried before the listing is given up.
     tries: usize,
 }
 
-/// The least total, `None` in it if there is no tree; or `None` if there are too
+/// The least trees, `None` in it if there is no tree; or `None` if there are too
 /// many trees to list.
-fn least_by_listing(sheet: &Sheet, tries: usize) -> Option<Option<u64>> {
+pub fn least_trees(sheet: &Sheet, tries: usize) -> Option<Option<Least>> {
     let bars = (0..u32::from(sheet.bars)).rev();
     let mut listing = Listing {
         sheet,
+        list: Vec::new(),
         open: bars
             .map(|bar| (sheet.start, bar * BAR_UNITS, BAR_UNITS))
             .collect(),
@@ -37,20 +46,22 @@ fn least_by_listing(sheet: &Sheet, tries: usize) -> Option<Option<u64>> {
 }
 
 impl Listing<'_> {
-    /// Lists all trees that go on from here.
+    /// Lists all trees that go on from here. The rules are tried from the last to
+    /// the first, so that the first tree is found by comparing and not by the order
+    /// of trying.
     fn extend(&mut self, carried: usize, r: u64, d: u64) {
         let Some((nonterminal, left, length)) = self.open.pop() else {
-            let total = u64::from(self.sheet.multiplier) * r + d;
-            if carried == 0 && self.least.is_none_or(|least| total < least) {
-                self.least = Some(total);
+            if carried == 0 {
+                self.complete(u64::from(self.sheet.multiplier) * r + d);
             }
             return;
         };
-        for rule in &self.sheet.rules {
+        for (number, rule) in self.sheet.rules.iter().enumerate().rev() {
             self.tries = self.tries.saturating_sub(1);
             if self.tries == 0 {
                 break;
             }
+            self.list.push(number as u8);
             match *rule {
                 Rule::Leaf { head, weight, n } if head == nonterminal => {
                     self.leaf((left, length, n), carried, r + u64::from(weight), d);
@@ -66,8 +77,31 @@ impl Listing<'_> {
                 }
                 _ => {}
             }
+            self.list.pop();
         }
         self.open.push((nonterminal, left, length));
+    }
+
+    /// Takes a valid tree.
+    fn complete(&mut self, total: u64) {
+        match &mut self.least {
+            Some(least) if least.total < total => {}
+            Some(least) if least.total == total => {
+                least.count += 1;
+                least.shortest = least.shortest.min(self.list.len());
+                if self.list < least.first {
+                    least.first.clone_from(&self.list);
+                }
+            }
+            least => {
+                *least = Some(Least {
+                    total,
+                    first: self.list.clone(),
+                    count: 1,
+                    shortest: self.list.len(),
+                });
+            }
+        }
     }
 
     fn leaf(&mut self, (left, length, n): (u32, u32, u8), carried: usize, r: u64, d: u64) {
@@ -115,90 +149,5 @@ impl Listing<'_> {
         self.open[kept..].reverse();
         self.extend(carried, r, d);
         self.open.truncate(kept);
-    }
-}
-
-fn found(search: &mut Search, sheet: &Sheet) -> Option<(u64, Vec<u8>)> {
-    let total = search.find(sheet)?;
-    let mut tree = vec![0; peer::tree_bytes(sheet) as usize];
-    let nodes = search.write_tree(&mut tree);
-    tree.truncate(nodes);
-    Some((total, tree))
-}
-
-/// Holds the search to the price of its own tree and, where all trees can be
-/// listed, to the least; gives whether they were, and whether a tree has a rest.
-fn hold(search: &mut Search, text: &[u8], tries: usize) -> (bool, Option<bool>) {
-    let sheet = peer::read(text).expect("the sheet is accepted");
-    let found = found(search, &sheet);
-    if let Some((total, tree)) = &found {
-        let price = trees::price(&sheet, tree).expect("the tree is valid");
-        assert_eq!(price.total, *total);
-    }
-    let rests = found.as_ref().map(|(_, tree)| has_rest(&sheet, tree));
-    let total = found.map(|(total, _)| total);
-    let listed = least_by_listing(&sheet, tries);
-    if let Some(least) = listed {
-        let text = String::from_utf8_lossy(text);
-        assert_eq!(total, least, "{text}");
-    }
-    (listed.is_some(), rests)
-}
-
-fn has_rest(sheet: &Sheet, tree: &[u8]) -> bool {
-    let mut rules = tree.iter().map(|&number| &sheet.rules[usize::from(number)]);
-    rules.any(|rule| matches!(rule, Rule::Leaf { n: REST, .. }))
-}
-
-#[test]
-fn least_of_all_trees() {
-    let (mut dice, mut search) = (Dice::new(1), Search::default());
-    let (mut with_tree, mut with_rest, mut without) = (0, 0, 0);
-    for _ in 0..30_000 {
-        let text = takes::small(&mut dice);
-        match hold(&mut search, &text, 20_000) {
-            (false, _) => {}
-            (true, None) => without += 1,
-            (true, Some(rest)) => {
-                with_tree += 1;
-                with_rest += usize::from(rest);
-            }
-        }
-    }
-    println!(
-        "listed all trees of {} sheets, {with_tree} of them with a tree, {with_rest} with a rest",
-        with_tree + without
-    );
-    assert!(with_tree > 5_000 && without > 5_000);
-    assert!(with_rest > 2_000 && with_tree - with_rest > 2_000);
-}
-
-/// Document 01's sheet S, its neighbours and what the papers say of them; and S
-/// with a rest added.
-#[test]
-fn sheets_of_the_documents() {
-    let s = peer::tests::S;
-    let with = |from: usize, lines: &[&str]| [&s[..from], lines].concat().join("\n") + "\n";
-    let onset = |time: u32| format!("4E{time:08X}3E40");
-    let one = |time| with(6, &[&onset(time)]);
-    let with_rest = |time| with(5, &["4C01000204", s[5], &onset(time)]);
-    let two_bars = ["4502001E8480", "4E000000003C40", "4E001E847F3E40"];
-    let cases: [(String, Option<(u64, &[u8])>); 10] = [
-        (with(8, &[]), Some((1_088, &[1, 3, 3]))),
-        (one(499_999), Some((5_049, &[0]))),
-        (one(500_000), Some((5_050, &[0]))),
-        (one(999_999), Some((10_089, &[0]))),
-        (one(1_000_000), None),
-        (with(5, &two_bars), Some((21, &[0, 0]))),
-        (with(7, &[s[6]]), None),
-        (with_rest(500_000), Some((5_050, &[0]))),
-        (with_rest(999_999), Some((91, &[1, 4, 3]))),
-        (with_rest(1_000_000), Some((90, &[1, 4, 3]))),
-    ];
-    let mut search = Search::default();
-    for (text, expected) in cases {
-        let sheet = peer::read(text.as_bytes()).expect("the sheet is accepted");
-        let expected = expected.map(|(total, tree)| (total, tree.to_vec()));
-        assert_eq!(found(&mut search, &sheet), expected, "{text}");
     }
 }

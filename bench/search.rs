@@ -1,5 +1,6 @@
-//! A second search for a least tree, written from documents 01 and 02 alone, so
-//! that the library's can be compared with it and timed against it.
+//! A second search for the first of the least trees in dictionary order, written
+//! from documents 01 and 02 alone, so that the library's can be compared with it
+//! and timed against it.
 //!
 //! A part of a bar begins at a multiple of its length, so its length and the
 //! first onset inside name it. Its row gives, for a nonterminal and a carry
@@ -12,19 +13,27 @@
 //! Rests are only in bars and parts that no onset lies before. Of these, parts
 //! with onsets have the piece's first as their own first, and no carry comes to
 //! them: so their rows stand where those of no carry would.
+//!
+//! For each carry with which a bar can be left, the first of the least trees up to
+//! there is kept. Lists that leave different carries differ, and none begins another:
+//! so their order stays, whatever follows.
+
+/// These are named by their paths, since they use what is private here.
+#[path = "dividing.rs"]
+mod dividing;
+#[path = "writing.rs"]
+mod writing;
 
 use crate::peer::{Sheet, BAR_UNITS};
-use crate::rules::{
-    kind, Cost, Division, Grammar, Step, LENGTHS, MAX_ARITY, MAX_LATE, NONE, SILENCE,
-};
+use crate::rules::{kind, Cost, Grammar, Step, LENGTHS, MAX_LATE, MAX_RULES, NONE, SILENCE};
 use std::arch::x86_64::{
     __m128d, _mm_add_pd, _mm_add_sd, _mm_load_pd, _mm_min_pd, _mm_min_sd, _mm_set1_pd, _mm_set_pd,
     _mm_set_sd, _mm_store_pd, _mm_unpackhi_pd,
 };
+use writing::Wanted;
 
 const MAX_BARS: usize = 64;
 const MAX_BAR_ONSETS: usize = 32;
-const MAX_RULES: usize = 64;
 
 /// A row of a part with one onset, by the onsets carried on: none or it.
 #[derive(Clone, Copy)]
@@ -97,6 +106,8 @@ struct Group {
 struct Piece {
     part: u8,
     first: u8,
+    /// The most it receives.
+    carry: u8,
     /// The most it carries on.
     late: u8,
     /// `ALONE` if it has one onset.
@@ -105,11 +116,12 @@ struct Piece {
 
 const ALONE: u16 = u16::MAX;
 
-/// How a bar is left with some carry: the carry it received, and where its tree
-/// stands among `trees`.
+/// How a bar is left with some carry: the carry it received, the place of that in
+/// `order`, and where its tree stands among `trees`.
 #[derive(Clone, Copy, Default)]
 struct Choice {
     carry: usize,
+    rank: usize,
     from: usize,
     until: usize,
 }
@@ -137,12 +149,16 @@ pub struct Search {
     walks: Vec<[Row; 4]>,
     /// Of all bars, for each carry with which a bar can be left.
     trees: Vec<u8>,
+    /// The carries with which the last bar can be left, by the order of the lists
+    /// up to there.
+    order: Vec<usize>,
     /// The bars of the tree found, the last first.
     chosen: Vec<Choice>,
 }
 
 /// The places of bits, the lowest first.
-fn bits(mut set: u32) -> impl Iterator<Item = usize> {
+fn bits(set: impl Into<u64>) -> impl Iterator<Item = usize> {
+    let mut set = set.into();
     std::iter::from_fn(move || {
         let bit = set.trailing_zeros() as usize;
         (set != 0).then(|| {
@@ -266,6 +282,7 @@ impl Search {
                 self.pieces.push(Piece {
                     part: part as u8,
                     first: first as u8,
+                    carry: received,
                     late,
                     group: index,
                 });
@@ -581,260 +598,9 @@ impl Search {
     }
 }
 
-/// What a tree is wanted for: a nonterminal over a part, by carry received and
-/// carried on, and its total.
-#[derive(Clone, Copy)]
-struct Wanted {
-    name: usize,
-    at: usize,
-    carry: usize,
-    on: usize,
-    total: Cost,
-}
-
-/// A division over a part with several onsets.
-struct Over<'a> {
-    grammar: &'a Grammar,
-    division: &'a Division,
-    /// The length of its parts.
-    at: usize,
-    /// How many of its parts, from the first, are rests.
-    rests: usize,
-    pieces: [Option<Piece>; MAX_ARITY],
-}
-
-/// The kind of a part without onsets, of a division that begins with some rests.
-fn kind_of_empty(part: usize, rests: usize, carry: usize) -> usize {
-    if part < rests {
-        SILENCE
-    } else {
-        carry
-    }
-}
-
-/// Trees, from the rows.
-impl Search {
-    fn row(&self, grammar: &Grammar, name: usize, at: usize, piece: &Piece, carry: usize) -> Row {
-        if piece.group != ALONE {
-            return self.rows[usize::from(piece.group) * grammar.names + name][carry];
-        }
-        let plane = self.plane(grammar, piece.first.into(), carry);
-        let Pair([none, one]) = self.pairs[plane + at * grammar.names + name];
-        Row([none, one, NONE, NONE])
-    }
-
-    fn write(&mut self, grammar: &Grammar, piece: &Piece, wanted: Wanted) {
-        if piece.group == ALONE {
-            self.write_single(grammar, piece.first.into(), wanted);
-        } else {
-            self.write_group(grammar, piece.group.into(), wanted);
-        }
-    }
-
-    /// Writes the leaf if it has the total wanted.
-    fn write_leaf(
-        &mut self,
-        grammar: &Grammar,
-        wanted: Wanted,
-        first: usize,
-        (early, late): (usize, usize),
-        distance: u32,
-    ) -> bool {
-        let kind = kind(self.received(first, wanted.carry), early);
-        let total = grammar.leaf[wanted.name][kind] + Cost::from(distance);
-        let fits = late == wanted.on && total == wanted.total;
-        if fits {
-            self.trees.push(grammar.leaf_rule[wanted.name][kind]);
-        }
-        fits
-    }
-
-    fn write_single(&mut self, grammar: &Grammar, onset: usize, wanted: Wanted) {
-        let reached = &grammar.reached[wanted.at];
-        let offset = self.offsets[onset];
-        let before = offset - reached.part_of(offset) * reached.length;
-        let after = reached.length - before;
-        let early = usize::from(before < after);
-        let counts = (early, 1 - early);
-        if self.write_leaf(grammar, wanted, onset, counts, before.min(after)) {
-            return;
-        }
-        let received = self.received(onset, wanted.carry);
-        for step in grammar.steps(wanted.at) {
-            let to = usize::from(step.to);
-            let part = grammar.reached[to].part_of(before) as usize;
-            let singles = grammar.singles_of(step, received, part);
-            let carry = if part == 0 { wanted.carry } else { 0 };
-            let below = self.plane(grammar, onset, carry) + to * grammar.names;
-            for &at in grammar.uses(step) {
-                let single = &grammar.singles[singles.wrapping_add(at.into())];
-                let Pair(pair) = self.pairs[below + usize::from(single.part)];
-                let straight = pair[wanted.on] + single.straight[wanted.on] == wanted.total;
-                let crossed = wanted.on == 0 && pair[1] + single.crossed == wanted.total;
-                if usize::from(single.head) == wanted.name && (straight || crossed) {
-                    let on = if straight { wanted.on } else { 1 };
-                    let inner = Wanted {
-                        name: single.part.into(),
-                        at: to,
-                        carry,
-                        on,
-                        total: pair[on],
-                    };
-                    let division = &grammar.divisions[usize::from(at)];
-                    self.write_parts(grammar, division, (onset, part), wanted.carry, inner);
-                    return;
-                }
-            }
-        }
-        unreachable!("some rule has the total");
-    }
-
-    /// Writes a division over one onset, which is in some part.
-    fn write_parts(
-        &mut self,
-        grammar: &Grammar,
-        division: &Division,
-        (onset, inhabited): (usize, usize),
-        mut carry: usize,
-        inner: Wanted,
-    ) {
-        let rests = self.rests(onset, inhabited);
-        self.trees.push(division.rule);
-        for (part, &name) in division.parts[..division.arity.into()].iter().enumerate() {
-            if part == inhabited {
-                self.write_single(grammar, onset, inner);
-                carry = inner.on;
-            } else {
-                let kind = kind_of_empty(part, rests, carry);
-                self.trees.push(grammar.leaf_rule[usize::from(name)][kind]);
-                carry = 0;
-            }
-        }
-    }
-
-    fn write_group(&mut self, grammar: &Grammar, index: usize, wanted: Wanted) {
-        let group = self.groups[index];
-        let (first, counts) = (group.first.into(), (group.early.into(), group.late.into()));
-        if self.write_leaf(grammar, wanted, first, counts, group.distance) {
-            return;
-        }
-        for (step, split) in grammar.steps(wanted.at).iter().zip(group.splits as usize..) {
-            for &at in grammar.uses(step) {
-                let division = &grammar.divisions[usize::from(at)];
-                if usize::from(division.head) == wanted.name {
-                    let over = Over {
-                        grammar,
-                        division,
-                        at: step.to.into(),
-                        rests: self.rests_of(split),
-                        pieces: self.pieces_of(split),
-                    };
-                    if self.write_over(&over, wanted) {
-                        return;
-                    }
-                }
-            }
-        }
-        unreachable!("some rule has the total");
-    }
-
-    /// How many parts of a split are rests.
-    fn rests_of(&self, split: usize) -> usize {
-        let (from, _) = self.splits[split];
-        let piece = &self.pieces[from as usize];
-        self.rests(piece.first.into(), piece.part.into())
-    }
-
-    /// By part: the piece, if the part has onsets.
-    fn pieces_of(&self, split: usize) -> [Option<Piece>; MAX_ARITY] {
-        let (from, until) = self.splits[split];
-        let mut pieces = [None; MAX_ARITY];
-        for piece in &self.pieces[from as usize..until as usize] {
-            pieces[usize::from(piece.part)] = Some(*piece);
-        }
-        pieces
-    }
-
-    /// Writes the division over several onsets if it has the total.
-    fn write_over(&mut self, over: &Over, wanted: Wanted) -> bool {
-        let arity = usize::from(over.division.arity);
-        let mut walk = [NO_ROW; MAX_ARITY + 1];
-        walk[0] = Row::only(wanted.carry, over.division.cost);
-        for part in 0..arity {
-            walk[part + 1] = self.passed(over, part, &walk[part]);
-        }
-        if walk[arity].0[wanted.on] != wanted.total {
-            return false;
-        }
-        let mut parts = [wanted; MAX_ARITY];
-        let mut on = wanted.on;
-        for part in (0..arity).rev() {
-            parts[part] = self.wanted_of(over, part, &walk[part], walk[part + 1].0[on], on);
-            on = parts[part].carry;
-        }
-        self.trees.push(over.division.rule);
-        for (part, &wanted) in parts[..arity].iter().enumerate() {
-            match &over.pieces[part] {
-                Some(piece) => self.write(over.grammar, piece, wanted),
-                None => {
-                    let kind = kind_of_empty(part, over.rests, wanted.carry);
-                    self.trees.push(over.grammar.leaf_rule[wanted.name][kind]);
-                }
-            }
-        }
-        true
-    }
-
-    /// The row of a part, with onsets or without.
-    fn part_row(&self, over: &Over, part: usize, carry: usize) -> Row {
-        let name = usize::from(over.division.parts[part]);
-        match &over.pieces[part] {
-            None => {
-                let kind = kind_of_empty(part, over.rests, carry);
-                Row::only(0, over.grammar.leaf[name][kind])
-            }
-            Some(piece) => self.row(over.grammar, name, over.at, piece, carry),
-        }
-    }
-
-    /// The least totals after a part, from those before it. Rows of carries that
-    /// there cannot be hold anything, but are added to `NONE`.
-    fn passed(&self, over: &Over, part: usize, ahead: &Row) -> Row {
-        let name = usize::from(over.division.parts[part]);
-        let Some(piece) = &over.pieces[part] else {
-            let leaf = |carry| over.grammar.leaf[name][kind_of_empty(part, over.rests, carry)];
-            let sums: [Cost; 4] = std::array::from_fn(|carry| ahead.0[carry] + leaf(carry));
-            return Row::only(0, least(least(sums[0], sums[1]), least(sums[2], sums[3])));
-        };
-        let mut after = NO_ROW;
-        for carry in 0..4 {
-            let row = self.row(over.grammar, name, over.at, piece, carry);
-            for on in 0..4 {
-                after.0[on] = least(after.0[on], ahead.0[carry] + row.0[on]);
-            }
-        }
-        after
-    }
-
-    /// What is wanted of a part after which the total is `goal`.
-    fn wanted_of(&self, over: &Over, part: usize, ahead: &Row, goal: Cost, on: usize) -> Wanted {
-        let cell = |carry| self.part_row(over, part, carry).0[on];
-        let attains =
-            |&carry: &usize| ahead.0[carry] < NONE && ahead.0[carry] + cell(carry) == goal;
-        let carry = (0..4).find(attains).expect("some carry has the total");
-        Wanted {
-            name: over.division.parts[part].into(),
-            at: over.at,
-            carry,
-            on,
-            total: cell(carry),
-        }
-    }
-}
-
 /// Bar after bar.
 impl Search {
-    /// The least total, of which a tree is kept; `None` if there is no tree.
+    /// The least total, of which the first tree is kept; `None` if there is no tree.
     pub fn find(&mut self, sheet: &Sheet) -> Option<u64> {
         let grammar = Grammar::new(sheet);
         let bars = usize::from(sheet.bars);
@@ -843,6 +609,8 @@ impl Search {
         let mut totals = Row::only(0, 0.0);
         let mut onsets = &sheet.onsets[..];
         self.trees.clear();
+        self.order.clear();
+        self.order.push(0);
         for (left, choices) in (0..).step_by(BAR_UNITS as usize).zip(&mut choices[..bars]) {
             let inside = onsets.iter().take_while(|onset| onset.0 < left + BAR_UNITS);
             let (inside, after) = onsets.split_at(inside.count());
@@ -864,37 +632,58 @@ impl Search {
 
     /// The least totals after a bar, by carry, from those before it.
     fn bar(&mut self, grammar: &Grammar, totals: &Row, choices: &mut [Choice; 4]) -> Row {
-        let count = self.offsets.len() - 1;
-        let possible = |carry: &usize| totals.0[*carry] < NONE;
-        let most = (0..4).rev().find(possible).unwrap_or(0);
-        if count > 0 {
-            self.survey(grammar, most as u8);
+        if self.offsets.len() > 1 {
+            let most = self.order.iter().max().unwrap_or(&0);
+            self.survey(grammar, *most as u8);
             self.singles(grammar);
             self.groups(grammar);
         }
         let mut after = NO_ROW;
         let mut cells = [0.0; 4];
-        for carry in (0..4).filter(possible) {
+        // In the order of their lists, so that of equals the first is kept.
+        for (rank, &carry) in self.order.iter().enumerate() {
             let row = self.whole_row(grammar, carry);
             for on in 0..4 {
                 if totals.0[carry] + row.0[on] < after.0[on] {
                     after.0[on] = totals.0[carry] + row.0[on];
-                    (choices[on].carry, cells[on]) = (carry, row.0[on]);
+                    cells[on] = row.0[on];
+                    (choices[on].carry, choices[on].rank) = (carry, rank);
                 }
             }
         }
-        // Such a carry is of no use, and neither are its tree and rows after it.
+        // Such a carry is of no use, and neither are its tree and rows after it. With
+        // equal totals it is kept, since its list may be the first.
         for on in 1..4 {
-            if after.0[0] + grammar.without[on] <= after.0[on] {
+            if after.0[0] + grammar.without[on] < after.0[on] {
                 after.0[on] = NONE;
             }
         }
+        self.leave(grammar, &after, &cells, choices);
+        after
+    }
+
+    /// Writes the trees of a bar, and orders the carries with which it is left.
+    fn leave(
+        &mut self,
+        grammar: &Grammar,
+        after: &Row,
+        cells: &[Cost; 4],
+        choices: &mut [Choice; 4],
+    ) {
+        self.order.clear();
         for on in (0..4).filter(|&on| after.0[on] < NONE) {
             choices[on].from = self.trees.len();
             self.write_whole(grammar, choices[on].carry, on, cells[on]);
             choices[on].until = self.trees.len();
+            self.order.push(on);
         }
-        after
+        let trees = &self.trees;
+        let list = |on: usize| {
+            let choice = &choices[on];
+            (choice.rank, &trees[choice.from..choice.until])
+        };
+        self.order
+            .sort_unstable_by(|&one, &other| list(one).cmp(&list(other)));
     }
 
     fn whole(&self) -> Piece {
@@ -902,6 +691,7 @@ impl Search {
         Piece {
             part: 0,
             first: 0,
+            carry: 0,
             late: 0,
             group: if several { 0 } else { ALONE },
         }
@@ -925,10 +715,10 @@ impl Search {
                 name,
                 at,
                 carry,
-                on,
+                behind: Row::only(on, 0.0),
                 total,
             };
-            self.write(grammar, &self.whole(), wanted);
+            self.write(grammar, &self.whole(), &wanted);
         }
     }
 

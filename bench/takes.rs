@@ -1,15 +1,15 @@
 //! Sheets to compare the search on: small ones that mix what a search can get
-//! wrong, a few large ones, the same with a damaged text, and the texts that
-//! readings are compared on.
+//! wrong, many of them with several least trees, a few large or long ones, small
+//! ones with a damaged text, and the texts that readings are compared on.
 
 use crate::lists::{duration, leaf_of, played, sheet_text, units};
-use crate::peer;
+use crate::peer::{self, BAR_UNITS};
 use crate::sheets::{self, Case, Dice, MAX_RULES, REST};
 
 /// The work cells required of a sheet: few enough for many comparisons, and
 /// more only now and then.
 const MOST_CELLS: u64 = 20_000;
-const LARGE_EVERY: usize = 250;
+const LARGE_EVERY: usize = 160;
 
 /// The next text to find a tree of.
 pub fn case(dice: &mut Dice) -> Case {
@@ -18,6 +18,7 @@ pub fn case(dice: &mut Dice) -> Case {
         let case = match dice.below(10) {
             0 => sheets::case(dice),
             1 => damaged(dice),
+            2..=4 if large => valid("long sheet", long(dice)),
             _ if large => valid("large sheet", sheet_text(dice)),
             _ => valid("small sheet", small(dice)),
         };
@@ -47,10 +48,14 @@ fn damaged(dice: &mut Dice) -> Case {
 
 /// A sheet of one to six bars with few onsets, so that some bars are empty.
 pub fn small(dice: &mut Dice) -> Vec<u8> {
+    if dice.one_in(5) {
+        return even(dice);
+    }
     let bars = dice.pick(&[1, 1, 2, 2, 3, 4, 6]);
     let most = dice.pick(&[1, 2, 4, 6, 10]);
     let onsets = dice.between(1, most);
-    let (lines, duration) = (grammar(dice), duration(dice));
+    let scale = scale(dice);
+    let (lines, duration) = (grammar(dice, scale), duration(dice));
     let units = units(dice, bars, onsets);
     played(dice, lines, bars, duration, &units)
 }
@@ -80,9 +85,8 @@ fn scale(dice: &mut Dice) -> (usize, u16) {
     }
 }
 
-fn grammar(dice: &mut Dice) -> Vec<Vec<u8>> {
+fn grammar(dice: &mut Dice, (heaviest, multiplier): (usize, u16)) -> Vec<Vec<u8>> {
     let nonterminals = dice.pick(&[1, 1, 2, 2, 3, 4]);
-    let (heaviest, multiplier) = scale(dice);
     let mut rules = leaves(dice, nonterminals);
     let arities = dice.pick(&ARITIES);
     for _ in 0..dice.between(1, 3 * nonterminals + 3) {
@@ -96,6 +100,16 @@ fn grammar(dice: &mut Dice) -> Vec<Vec<u8>> {
         rule[3] ^= dice.pick(&[0, 1]);
         rules.push(rule);
     }
+    headed(dice, nonterminals, multiplier, rules)
+}
+
+/// The rules in any order, behind their head.
+fn headed(
+    dice: &mut Dice,
+    nonterminals: usize,
+    multiplier: u16,
+    mut rules: Vec<Vec<u8>>,
+) -> Vec<Vec<u8>> {
     dice.shuffle(&mut rules);
     let mut head = sheets::grammar_head(dice, nonterminals);
     head[3..].copy_from_slice(&multiplier.to_be_bytes());
@@ -155,4 +169,74 @@ fn leaves(dice: &mut Dice, nonterminals: usize) -> Vec<Vec<u8>> {
         }
     }
     rules
+}
+
+// Sheets with several least trees.
+
+const BAR: usize = BAR_UNITS as usize;
+
+/// A small sheet where many trees have one total: distances and what rules cost
+/// are small multiples of one number.
+pub fn even(dice: &mut Dice) -> Vec<u8> {
+    if dice.one_in(2) {
+        let (bars, onsets) = (dice.between(2, 4), dice.between(1, 5));
+        return late(dice, bars, onsets);
+    }
+    let bars = dice.pick(&[1, 1, 2, 2, 3]);
+    let onsets = dice.between(1, 6);
+    let grain = BAR / dice.pick(&[4, 6, 8, 12, 16, 24, 48]);
+    let multiplier = dice.pick(&[0, grain / 2, grain, grain, 2 * grain]);
+    let heaviest = dice.below(4);
+    let lines = grammar(dice, (heaviest, multiplier as u16));
+    let mut units = units(dice, bars, onsets);
+    for unit in &mut units {
+        *unit -= *unit % grain;
+    }
+    let duration = dice.pick(&[BAR, 100 * BAR]);
+    played(dice, lines, bars, duration, &units)
+}
+
+/// The same with many bars.
+fn long(dice: &mut Dice) -> Vec<u8> {
+    let bars = dice.between(8, 64);
+    let onsets = dice.between(bars, 2 * bars);
+    late(dice, bars, onsets)
+}
+
+/// Such a sheet with its onsets late in the bars, so that a division costs about as
+/// much as it saves where nothing is carried over the bar line.
+fn late(dice: &mut Dice, bars: usize, onsets: usize) -> Vec<u8> {
+    let parts = dice.pick(&[4, 6, 8, 8, 12]);
+    let grain = BAR / parts;
+    let multiplier = dice.pick(&[grain, 2 * grain]);
+    let lines = light_grammar(dice, multiplier as u16);
+    let mut units = Vec::new();
+    for _ in 0..onsets {
+        units.push(dice.below(bars - 1) * BAR + dice.between(parts / 2, parts - 1) * grain);
+    }
+    // Nothing is carried out of the last bar, so there an onset may be anywhere.
+    if dice.one_in(2) {
+        units.push((bars - 1) * BAR + dice.below(parts) * grain);
+    }
+    units.sort_unstable();
+    played(dice, lines, bars, BAR, &units)
+}
+
+/// Leaves of every n and a few divisions, of weights 0, 1 and 2.
+fn light_grammar(dice: &mut Dice, multiplier: u16) -> Vec<Vec<u8>> {
+    let nonterminals = dice.between(1, 2);
+    let mut rules = Vec::new();
+    for head in 0..nonterminals {
+        rules.extend((0..=REST).map(|n| leaf_of(dice, head, n)));
+    }
+    for rule in &mut rules {
+        (rule[2], rule[3]) = (0, dice.pick(&[0, 0, 1]));
+    }
+    for _ in 0..dice.between(1, 4) {
+        let arity = dice.pick(&[2, 2, 3, 4]);
+        let mut rule = sheets::division(dice, nonterminals, arity);
+        (rule[2], rule[3]) = (0, dice.pick(&[0, 1, 1, 2]));
+        rules.push(rule);
+    }
+    headed(dice, nonterminals, multiplier, rules)
 }

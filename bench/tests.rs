@@ -3,6 +3,7 @@
 // The tests use only some of the files' functions.
 #![allow(dead_code)]
 
+mod holding;
 mod listing;
 mod lists;
 mod rules;

@@ -22,7 +22,7 @@ const HEAD_LINE: usize = 53;
 /// The same of a leaf's line, without pitches.
 const LEAF_LINE: usize = 19;
 
-#[derive(Clone, Copy, Debug, PartialEq)]
+#[derive(Clone, Copy, Debug, Default, PartialEq)]
 pub struct Price {
     pub nodes: u64,
     /// The weights of all rules used.

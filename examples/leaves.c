@@ -1,4 +1,5 @@
-/* Finds a least tree of a sheet and prints its leaves: bar, place and length in units, n (4 is a rest), and the pitches placed there. */
+/* Finds the first least tree of a sheet and prints its leaves: bar, place and length in units, n (4 is a rest), and the pitches placed
+   there. */
 #include <inttypes.h>
 #include <stdio.h>
 #include <stdlib.h>

@@ -1,4 +1,5 @@
-//! Finds a least tree of a sheet and prints its leaves: bar, place and length in units, n (4 is a rest), and the pitches placed there.
+//! Finds the first least tree of a sheet and prints its leaves: bar, place and length in units, n (4 is a rest), and the pitches placed
+//! there.
 use std::{error::Error, fs::File, io::Read, io::Write, num::ParseIntError, process::exit};
 
 extern "C" {

@@ -46,10 +46,11 @@ void rhythm_price(const uint8_t *text, size_t text_length, const uint8_t *list, 
 void rhythm_write(const uint8_t *text, size_t text_length, const uint8_t *list, size_t list_length, uint8_t *score, size_t score_length,
                   uint64_t answer[3]);
 
-/* Finds a least tree. answer: refusal number, line, node count, R, D, total.
+/* Finds the first least tree. answer: refusal number, line, node count, R, D, total.
 
    0: the first `node count` bytes of the tree slice are a valid tree, the figures are its own, and no valid tree of the sheet totals less.
-   Bytes behind them are kept. Of several least trees it is free which is given.
+   Bytes behind them are kept. Of several trees with that total it is the first in dictionary order: where two first differ, the one with
+   the lower rule number. So one call has one answer, whatever build gives it.
    9, 10: the work slice, the tree slice is shorter than required. 11: no list of bytes, of any length, is a valid tree.
    After 0 and 11 the required cells at the front of the work slice are 0; what they hold before the call does not matter. Cells behind them
    are kept. */

@@ -98,8 +98,8 @@ pub extern "C" fn rhythm_write(text: &[u8], list: &[u8], score: &mut [u8], answe
     *answer = cells;
 }
 
-// Finds a least tree of the sheet that a text means. The tree's bytes go to the front of the tree slice; the required work cells are 0
-// after a tree and after 11; every other byte and cell is kept.
+// Finds the first least tree of the sheet that a text means. The tree's bytes go to the front of the tree slice; the required work cells
+// are 0 after a tree and after 11; every other byte and cell is kept.
 #[no_mangle]
 pub extern "C" fn rhythm_find(text: &[u8], tree: &mut [u8], work: &mut [u64], answer: &mut [u64; 6])
     ensures { λ _. ⌜

@@ -1,6 +1,7 @@
-// Finds least trees of sheets that are read from standard input. A case is a line that names it, a line of pairs that says how it is run,
-// and the sheet. Byte 46 runs `find`; behind it stand the byte that fills the tree slice beforehand, the byte that fills each byte of the
-// work cells, and the lengths of the tree and the work slice that are lent, two bytes each. Byte 52 prints what the program would print.
+// Finds the first least trees of sheets that are read from standard input. A case is a line that names it, a line of pairs that says how it
+// is run, and the sheet. Byte 46 runs `find`; behind it stand the byte that fills the tree slice beforehand, the byte that fills each byte
+// of the work cells, and the lengths of the tree and the work slice that are lent, two bytes each. Byte 52 prints what the program would
+// print.
 ghost use mathlib.Core.Path.{_≡_};
 ghost use Prim.Native.Nat.{_≤_};
 ghost use lib.ListN.{length};

@@ -1,7 +1,7 @@
 -- The three demands, clause by clause, as theorems about the entries: whatever meets an entry's contract has what the clause asks. A reader
 -- needs this page and the definitions of `readSheet` (sheet/specs/Reading), `ValidTree`, `KindFits`, `Priced`, `totalOf`
--- (trees/specs/ValidTrees), `RestFits` (trees/specs/Kinds), `treeBytes`, `workCells` (sizes/specs/Sizes), `scoreText`
--- (score/specs/Score). x′ is x after the call.
+-- (trees/specs/ValidTrees), `RestFits` (trees/specs/Kinds), `InDictionaryOrder`, `LeastTree`, `FirstTree` (trees/specs/LeastTrees),
+-- `treeBytes`, `workCells` (sizes/specs/Sizes), `scoreText` (score/specs/Score). x′ is x after the call.
 -- Contracts: `Reads` (sheet/specs/Held), `Prices` (pricing/specs/Pricing), `Writes` (score/specs/Writing), `Finds` (finding/specs/Finding),
 -- `Reports` (reporting/specs/Reporting). Names:
 --   Refuses text k n, Accepts text s   `readSheet text` is a refusal with number k and line n, or the sheet s
@@ -9,16 +9,16 @@
 --   pricedAs s nodes R D, writtenAs n  the answer with number 0, line 0 and these figures with the total `totalOf s R D`, or n bytes
 --   scoreOf s p                        the `scoreText` of the valid tree p: of its own leaves, R, D and total
 --   Short, Fitting s list room         list is a valid tree, and `room` bytes are too few, or enough, for its `scoreOf`
---   FoundAs s tree tree′ r             r has the figures of a valid tree, none totals less, and its bytes lie over the front of tree
+--   FoundAs s tree tree′ r             r has the figures of the first least tree, and its bytes lie over the front of tree
 --   cleared s work                     work with its first `workCells s` cells 0
 --   LineOnly k n ..                    the line of the refusal is printed; the tree slice and the score slice are kept
---   Scored s ..                        a least tree lies over the front of the tree slice, its `scoreOf` over that of the score slice, and
---                                      this is printed; or, where the score slice is short of it, LineOnly 13 0
+--   Scored s ..                        the first least tree lies over the front of the tree slice, its `scoreOf` over that of the score
+--                                      slice, and this is printed; or, where the score slice is short of it, LineOnly 13 0
 use Prim.Native.Nat.{ℕ, _≤_, _<_}
 use mathlib.Core.Path.{_≡_, ap, _∙_}
 use mathlib.Core.List.{List, _++_}
 use mathlib.Core.Logic.{_⊎_, _↔_}
-use lib.ListN.{length, drop}
+use lib.ListN.{length, take, drop}
 use Rattle.slices.specs.Every.{Every}
 use Rattle.sheet.specs.declared.table.Reading.{Reading}
 use Rattle.sheet.specs.Sheet.{Sheet}
@@ -28,6 +28,7 @@ use Rattle.sheet.specs.Accepted.{Refuses, Accepts}
 use Rattle.sizes.specs.Sizes.{treeBytes, workCells}
 use Rattle.trees.specs.ValidTrees.{ValidTree, Priced, totalOf, entries, KindFits}
 use Rattle.trees.specs.Kinds.{RestFits, rests-fit}
+use Rattle.trees.specs.LeastTrees.{InDictionaryOrder}
 use Rattle.pricing.specs.declared.Priced as answer
 use Rattle.pricing.specs.Pricing.{Prices}
 use Rattle.pricing.specs.PriceLaws as price
@@ -39,9 +40,11 @@ use Rattle.score.specs.WritingLaws.{scoreOf, writtenAs, Short, Fitting}
 use Rattle.reporting.specs.declared.Shown.{Shown}
 use Rattle.finding.specs.Finding.{Finds, cleared}
 use Rattle.finding.specs.FindLaws as find
+use Rattle.finding.specs.OneAnswer as finding
 use Rattle.reporting.specs.Reporting.{Reports}
 use Rattle.reporting.specs.ReportLaws as report
 use Rattle.reporting.specs.ReportLaws.{LineOnly, Scored}
+use Rattle.reporting.specs.OneAnswer as reporting
 
 -- ==== Demand 1. "Every text and every lent slice is taken, and it finishes": no entry has a `requires`, so the prover shows of each that
 -- it is safe and ends for all arguments.
@@ -133,11 +136,17 @@ module _ (text : List ℕ) (s : Sheet) (a : Accepts text s) where
     pub find-sound : r .number ≡ 0
         → (bytes : List ℕ) × (R : ℕ) × (D : ℕ) × Priced s bytes R D × (r ≡ pricedAs s (length bytes) R D)
         × (tree′ ≡ bytes ++ drop (length bytes) tree)
-    find-sound z = let (bytes, R, D, t, e, f) = find.zero-then-found text h s a z in (bytes, R, D, t .valid, e, f)
+    find-sound z = let (bytes, R, D, t, e, f) = find.zero-then-found text h s a z in (bytes, R, D, t .tree .valid, e, f)
 
     -- "every other valid tree totals no less."
     pub find-least : r .number ≡ 0 → (bs : List ℕ) (R D : ℕ) → Priced s bs R D → r .total ≤ totalOf s R D
     find-least = find.zero-then-least text h s a
+
+    -- Document 02, (iii). "Handed back from now on is, among all least trees, the one whose byte list is smallest in dictionary order": the
+    -- least trees are the valid trees with the total given, by `find-least`
+    pub find-first : r .number ≡ 0 → (bs : List ℕ) (R D : ℕ) → Priced s bs R D → totalOf s R D ≡ r .total
+        → InDictionaryOrder (take (r .nodes) tree′) bs
+    find-first = find.zero-then-first text h s a
 
     -- "With slices of the required lengths a tree is handed back exactly when some list of bytes is one,"
     pub find-complete : workCells s ≤ length work → treeBytes s ≤ length tree
@@ -153,3 +162,15 @@ pub find-neither : (text tree tree′ work work′ : List ℕ) (r : answer.Price
     → ((s : Sheet) × Accepts text s × ((length work < workCells s) ⊎ (length tree < treeBytes s))) ⊎ ((s : Sheet) → Accepts text s → ⊥)
     → (r .number ≡ 0 → ⊥) × (r .number ≡ 11 → ⊥)
 find-neither text tree tree′ work work′ r h = find.neither text h
+
+-- Document 02, (iii). "Two builds could print one take as two pages with one total": two answers to one call are the same, and so is what
+-- they leave in every slice, of every text and all slices. t₁, w₁, c₁, l₁ are the tree, work, score and line slice after the one, and t₂,
+-- w₂, c₂, l₂ after the other.
+pub find-one-answer : (text tree t₁ t₂ work w₁ w₂ : List ℕ) (r₁ r₂ : answer.Priced) → Finds text tree t₁ work w₁ r₁
+    → Finds text tree t₂ work w₂ r₂ → (r₁ ≡ r₂) × (t₁ ≡ t₂) × (w₁ ≡ w₂)
+find-one-answer text tree t₁ t₂ work w₁ w₂ r₁ r₂ = finding.one-answer text tree work
+
+pub report-one-answer : (text tree t₁ t₂ work w₁ w₂ score c₁ c₂ line l₁ l₂ : List ℕ) (r₁ r₂ : Shown)
+    → Reports text tree t₁ work w₁ score c₁ line l₁ r₁ → Reports text tree t₂ work w₂ score c₂ line l₂ r₂
+    → (r₁ ≡ r₂) × (t₁ ≡ t₂) × (w₁ ≡ w₂) × (c₁ ≡ c₂) × (l₁ ≡ l₂)
+report-one-answer text tree t₁ t₂ work w₁ w₂ score c₁ c₂ line l₁ l₂ r₁ r₂ = reporting.one-answer text tree work score line

@@ -116,7 +116,7 @@ module _ {s : Sheet} {g : GrammarTable} {p : PlayingTable} {tree work : List ℕ
               bytes = bs;
               weight = f .found .1;
               distance = f .found .2;
-              least = f .found .3 .tree;
+              first = f .found .3;
               figures = e ∙ ap (λ (l : List ℕ). pricedOf (priced (length l) (f .found .1) (f .found .2) found-total)) front;
               tree-written = f .found .5;
             },

@@ -1,23 +1,23 @@
--- The seven cases of document 01 ("The sheet S and its neighbours") that finding answers, as document 02 leaves them, with two of rests,
--- and what is computed of them: the required lengths, the price of the bytes, and that no other tree totals as little.
--- `FindingCases.all-answered` says what this means of finding.
+-- The seven cases of document 01 ("The sheet S and its neighbours") that finding answers, as document 02 leaves them, with two of rests and
+-- three of two least trees each, and what is computed of them: the required lengths, the price of the bytes, that no tree totals less, and
+-- that none that totals as much comes before them. `FindingCases.all-answered` and `equals-answered` say what this means of finding.
 use Prim.Native.Nat.{ℕ}
 use mathlib.Core.Path.{_≡_, refl}
 use mathlib.Core.Bool.{Bool, true, false, cond, _&&_}
 use mathlib.Core.List.{List, [], _∷_, _++_, map}
 use mathlib.Core.Option.{Option·elim}
-use lib.Dec.{eqb, leb}
+use lib.Dec.{eqb, ltb}
 use lib.ListN.{length, replicate}
 use Rattle.sheet.specs.Literal.{textOf}
 use Rattle.sheet.specs.Sheet.{Sheet, TimedSheet, inBar}
 use Rattle.sheet.specs.Outcome.{Outcome, refused, accepted}
-use Rattle.sheet.specs.Reading.{readSheet}
+use Rattle.sheet.specs.Reading.{readSheet, onSheet}
 use Rattle.sheet.specs.Cases.{grammarS, headS, S}
 use Rattle.sizes.specs.Sizes.{treeBytes, workCells, lengthCount, mostInBar, largest}
 use Rattle.derivations.specs.Derivation.{Price, onto}
 use Rattle.trees.specs.ValidTrees.{whose, bars, distanceTo, totalOf}
 use Rattle.trees.specs.Instance.{instanceOf}
-use Rattle.pricing.specs.Pricing.{Figures, priced, priceSheet}
+use Rattle.pricing.specs.Pricing.{Figures, priced, priceSheet, priceText}
 use Rattle.finding.specs.EveryReading.{everyReading}
 
 -- a text, the required lengths of its work slice and its tree slice, what is given, and the tree's bytes
@@ -39,6 +39,35 @@ later t = grammarS ++ headS ++ textOf "4E" ++ t ++ textOf "3E40\n"
 abbrev rested : List ℕ
 rested = grammarS ++ textOf "4C01000204\n" ++ headS ++ textOf "4E000F42403E40\n"
 
+-- document 02, (iii): S with the multiplier 0 and a rest of the halves as rule 4. `00` and `010403` both total 5,040.
+abbrev pub bar-or-halves : List ℕ
+bar-or-halves =
+    textOf "4702000000\n4C00000101\n44000006020101\n4C01000200\n4C01000101\n4C01000204\n" ++ headS ++ textOf "4E0007A1203E40\n"
+
+-- the first is the longer: `000203` before `01`, which also weighs 3
+abbrev pub longer : List ℕ
+longer = textOf "470200000A\n44000001020101\n4C00000301\n4C01000101\n4C01000100\n" ++ headS ++ textOf "4E000000003C40\n"
+
+-- The first carries an onset over the bar line, for as much as it costs not to: `0000` before `02030301`, both 6,160. A search that passes
+-- over a carry where it saves nothing loses the first.
+abbrev over-bar-line : List ℕ
+over-bar-line =
+    textOf "470200000A\n4C00000001\n4C00000000\n440000E0020101\n4C01000001\n4C01000000\n"
+    ++ textOf "4502001E8480\n4E000000003C40\n4E001531593E40\n"
+
+-- what is given, the first of the two; `equal-totals` has the other
+abbrev pub equals : List Case
+equals =
+    case bar-or-halves 240 81 (priced 1 1 5040 5040) (0 ∷ [])
+    ∷ case longer 240 81 (priced 3 3 0 30) (0 ∷ 2 ∷ 3 ∷ [])
+    ∷ case over-bar-line 480 162 (priced 2 0 6160 6160) (0 ∷ 0 ∷ [])
+    ∷ []
+
+pub equal-totals : priceText bar-or-halves (1 ∷ 4 ∷ 3 ∷ []) ∷ priceText longer (1 ∷ []) ∷ priceText over-bar-line (2 ∷ 3 ∷ 3 ∷ 1 ∷ []) ∷ []
+    ≡ priced 3 9 5040 5040 ∷ priced 1 3 0 30 ∷ priced 4 224 3920 6160 ∷ []
+unfolding priceText onSheet readSheet priceSheet onto whose distanceTo Option·elim
+equal-totals = refl
+
 -- nodes, R, D and total, and the tree; or refusal 11 with line 0. The last two open with a rest: half a bar, and a bar
 abbrev pub cases : List Case
 cases =
@@ -55,12 +84,6 @@ cases =
 
 -- ---- the test of a case
 
-unfoldable pub same : List ℕ → List ℕ → Bool
-same [] [] = true
-same [] (y ∷ ys) = false
-same (x ∷ xs) [] = false
-same (x ∷ xs) (y ∷ ys) = eqb x y && same xs ys
-
 unfoldable pub alike : Outcome Figures → Outcome Figures → Bool
 alike (accepted x) (accepted y) =
     eqb (x .nodes) (y .nodes) && (eqb (x .weight) (y .weight) && (eqb (x .distance) (y .distance) && eqb (x .total) (y .total)))
@@ -68,11 +91,22 @@ alike (accepted x) (refused k l) = false
 alike (refused k l) (accepted x) = false
 alike (refused k l) (refused k′ l′) = eqb k k′ && eqb l l′
 
--- a list that carries nothing out and totals no more is these bytes
-unfoldable pub onlyTree : Sheet → (bytes : List ℕ) → (total : ℕ) → List ℕ → Price → Bool
-unfolding same
-onlyTree s bytes total bs p =
-    cond (eqb (p .carry) 0) (cond (leb (totalOf s (p .weight) (p .distance)) total) (same bs bytes) true) true
+-- x is less than y, or they are equal and b
+unfoldable pub thenBy : (x y : ℕ) → Bool → Bool
+thenBy x y b = cond (ltb x y) true (eqb x y && b)
+
+-- in dictionary order
+unfoldable pub inOrder : List ℕ → List ℕ → Bool
+unfolding thenBy
+inOrder [] ys = true
+inOrder (x ∷ xs) [] = false
+inOrder (x ∷ xs) (y ∷ ys) = thenBy x y (inOrder xs ys)
+
+-- a list that carries nothing out totals more than these bytes, or as much and does not come before them
+unfoldable pub noneBefore : Sheet → (bytes : List ℕ) → (total : ℕ) → List ℕ → Price → Bool
+unfolding thenBy inOrder
+noneBefore s bytes total bs p =
+    cond (eqb (p .carry) 0) (thenBy total (totalOf s (p .weight) (p .distance)) (inOrder bytes bs)) true
 
 -- a list carries something out
 unfoldable pub carriesOut : List ℕ → Price → Bool
@@ -84,9 +118,10 @@ unfolding everyReading instanceOf bars
 everyList s test = everyReading (instanceOf s) 8 (bars s) 0 test
 
 unfoldable pub judgedTree : Sheet → Outcome Figures → (bytes : List ℕ) → Bool
-unfolding priceSheet everyList alike onlyTree carriesOut same
-judgedTree s (accepted x) bs = alike (priceSheet s bs) (accepted x) && everyList s (onlyTree s bs (x .total))
-judgedTree s (refused k n) bs = alike (refused k n) (refused 11 0) && (same bs [] && everyList s carriesOut)
+unfolding priceSheet everyList alike noneBefore carriesOut
+judgedTree s (accepted x) bs = alike (priceSheet s bs) (accepted x) && everyList s (noneBefore s bs (x .total))
+judgedTree s (refused k n) [] = alike (refused k n) (refused 11 0) && everyList s carriesOut
+judgedTree s (refused k n) (b ∷ bs) = false
 
 unfoldable pub judged : Outcome TimedSheet → Case → Bool
 unfolding judgedTree workCells treeBytes lengthCount mostInBar largest inBar
@@ -102,3 +137,7 @@ holds c = judged (readSheet (c .text)) c
 pub all-computed : map holds cases ≡ replicate (length cases) true
 unfolding holds onto whose distanceTo Option·elim
 all-computed = refl
+
+pub equals-computed : map holds equals ≡ replicate (length equals) true
+unfolding holds onto whose distanceTo Option·elim
+equals-computed = refl

@@ -6,7 +6,7 @@ use mathlib.Core.List.{List, _++_}
 use mathlib.Core.Logic.{_⊎_, inl, inr, _↔_}
 use native.Mathlib.Decide.{decLt}
 use native.Mathlib.Omega.{arith}
-use lib.ListN.{length, drop}
+use lib.ListN.{length, take, drop}
 use Rattle.slices.specs.Every.{Every}
 use Rattle.slices.specs.Over.{over-drop}
 use Rattle.sheet.specs.Sheet.{Sheet}
@@ -18,8 +18,8 @@ use Rattle.sheet.specs.Accepted.{Refuses, Accepts, accepted-good, refuses-or-ac
 use Rattle.sizes.specs.Sizes.{treeBytes, workCells}
 use Rattle.trees.specs.ValidTrees as trees
 use Rattle.trees.specs.ValidTrees.{ValidTree, totalOf}
-use Rattle.trees.specs.Found.{LeastTree}
-use Rattle.trees.specs.Theorems.{none-or-least}
+use Rattle.trees.specs.LeastTrees.{InDictionaryOrder, FirstTree}
+use Rattle.trees.specs.Theorems.{none-or-first}
 use Rattle.pricing.specs.declared.Priced.{Priced}
 use Rattle.pricing.specs.Pricing.{pricedOf}
 use Rattle.pricing.specs.PriceLaws.{refusedAs, pricedAs}
@@ -27,6 +27,7 @@ use Rattle.finding.specs.Finding.{Search, noTree, found, findSheet, find
 use Rattle.finding.specs.Outcomes.{work-short, tree-short, none-found, one-found}
 use Rattle.finding.specs.FindingLaws.{tree-fits, has-tree, has-none, some-then-zero, zero-then-some, none-then-eleven}
 use Rattle.finding.specs.FindingLaws.{eleven-then-none, short-neither, refused-neither, refused-found, sheet-found}
+use Rattle.finding.specs.FindingLaws.{tree-handed-back}
 
 -- a refusal by reading has a number from 1 to 8
 pub refusal-number : (text : List ℕ) (k n : ℕ) → Refuses text k n → (1 ≤ k) × (k ≤ 8)
@@ -64,19 +65,19 @@ module _ (text : List ℕ) (tree work : ℕ) (s : Sheet) (a : Accepts text s) wh
     | yes h ↦ inl h
     | no h ↦ elim (decLt tree (treeBytes s)) [
       | yes k ↦ inr (inl (omega arith, k))
-      | no k ↦ elim (none-or-least s ok) [
+      | no k ↦ elim (none-or-first s ok) [
         | inl n ↦ inr (inr (inl (omega arith, omega arith, n)))
-        | inr x ↦ inr (inr (inr (omega arith, omega arith, (x .0, x .3 .valid .valid))))
+        | inr x ↦ inr (inr (inr (omega arith, omega arith, (x .0, x .3 .tree .valid .valid))))
       ]
     ]
   ]
 
 -- ---- what is given
 
--- a least tree over the front of the tree slice, whose later bytes are kept, and its figures
+-- the first least tree over the front of the tree slice, whose later bytes are kept, and its figures
 abbrev pub FoundAs : Sheet → (tree tree′ : List ℕ) → Priced → Type 0
 FoundAs s tree tree′ r =
-    (bytes : List ℕ) × (R : ℕ) × (D : ℕ) × LeastTree s bytes R D × (r ≡ pricedAs s (length bytes) R D)
+    (bytes : List ℕ) × (R : ℕ) × (D : ℕ) × FirstTree s bytes R D × (r ≡ pricedAs s (length bytes) R D)
     × (tree′ ≡ bytes ++ drop (length bytes) tree)
 
 abbrev number : Priced → ℕ
@@ -128,8 +129,8 @@ module _ (text : List ℕ) {tree tree′ work work′ : List ℕ} {r : Priced} (
         let g = given (accepted (found s)) (outcome-found text _ _ s a w t bs v) in
         let x = g .result .0 in
         let fits : length (x .bytes) ≤ length tree =
-        omega (arith, tree-fits s (accepted-good text s a) (x .bytes) (x .least .valid .valid)) in
-        ((x .bytes, x .weight, x .distance, x .least, x .figures, x .tree-written ∙ over-drop (x .bytes) tree fits), g .result .1)
+        omega (arith, tree-fits s (accepted-good text s a) (x .bytes) (x .first .tree .valid .valid)) in
+        ((x .bytes, x .weight, x .distance, x .first, x .figures, x .tree-written ∙ over-drop (x .bytes) tree fits), g .result .1)
 
     -- "Apart from these and a sheet that has no tree, nothing is refused": each answer under its condition
     pub find-answers : ((length work < workCells s) × (r ≡ refusedAs 9 0) × (tree′ ≡ tree) × (work′ ≡ work))
@@ -161,8 +162,18 @@ module _ (text : List ℕ) {tree tree′ work work′ : List ℕ} {r : Priced} (
     -- "every other valid tree totals no less"
     pub zero-then-least : r .number ≡ 0 → (bs : List ℕ) (R D : ℕ) → trees.Priced s bs R D → r .total ≤ totalOf s R D
     zero-then-least z bs R D p =
-        let (xs, R₀, D₀, least, e, g) = zero-then-found z in
-        omega (arith, least .least bs R D p, ap (λ (x : Priced). x .total) e)
+        let (xs, R₀, D₀, f, e, g) = zero-then-found z in
+        omega (arith, f .tree .least bs R D p, ap (λ (x : Priced). x .total) e)
+
+    -- document 02, (iii), "among all least trees, the one whose byte list is smallest in dictionary order": of the valid trees with that
+    -- total none comes before the bytes handed back
+    pub zero-then-first : r .number ≡ 0 → (bs : List ℕ) (R D : ℕ) → trees.Priced s bs R D → totalOf s R D ≡ r .total
+        → InDictionaryOrder (take (r .nodes) tree′) bs
+    zero-then-first z bs R D p e =
+        let at-sheet = subst (λ o. Gives o tree tree′ work work′ r) (sheet-found text _ _ s a) f in
+        let back = tree-handed-back s (accepted-good text s a) at-sheet z in
+        back .first .first bs R D
+        (record { valid = p; least = λ xs R′ D′ q. omega (arith, e, back .total, back .first .tree .least xs R′ D′ q) })
 
     -- "With slices of the required lengths a tree is handed back exactly when some list of bytes is one"
     pub zero-exactly : workCells s ≤ length work → treeBytes s ≤ length tree

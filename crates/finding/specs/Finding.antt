@@ -1,5 +1,6 @@
--- Finding, in the words of document 01's sections "Pricing, score lines, finding" and "When it says no". Number and line are one definition
--- of the text and of the two slices' lengths; what is found is a least tree, and which of several is the one thing left open.
+-- Finding, in the words of document 01's sections "Pricing, score lines, finding" and "When it says no" and of document 02, (iii). Number
+-- and line are one definition of the text and of the two slices' lengths; then the answer and both slices by cases. Nothing is left open:
+-- two answers to one call are the same (`one-answer` in `OneAnswer`).
 use Prim.Native.Nat.{ℕ}
 use mathlib.Core.Path.{_≡_}
 use mathlib.Core.Bool.{Bool, cond}
@@ -13,7 +14,7 @@ use Rattle.sheet.specs.Reading.{onSheet}
 use Rattle.sizes.specs.Sizes.{treeBytes, workCells}
 use Rattle.trees.specs.ValidTrees.{totalOf}
 use Rattle.trees.specs.LeastTotal.{NONE, leastTotal}
-use Rattle.trees.specs.Found.{LeastTree}
+use Rattle.trees.specs.LeastTrees.{FirstTree}
 use Rattle.pricing.specs.declared.Priced.{Priced}
 use Rattle.pricing.specs.Pricing.{priced, pricedOf}
 
@@ -59,12 +60,13 @@ pub record Refused (number line : ℕ) (tree treeAfter : List ℕ) (answer : Pri
   pub zeros : answer ≡ pricedOf (refused number line)
   pub tree-kept : treeAfter ≡ tree
 
--- "It gives what pricing its tree gives, and writes the tree from the front; later bytes are kept [..] it is valid and has the least total"
+-- "It gives what pricing its tree gives, and writes the tree from the front; later bytes are kept [..] it is valid and has the least
+-- total"; "among all least trees, the one whose byte list is smallest in dictionary order"
 pub record FoundTree (s : Sheet) (tree treeAfter : List ℕ) (answer : Priced) : Type 0 where
   pub bytes : List ℕ
   pub weight : ℕ
   pub distance : ℕ
-  pub least : LeastTree s bytes weight distance
+  pub first : FirstTree s bytes weight distance
   pub figures : answer ≡ pricedOf (priced (length bytes) weight distance (totalOf s weight distance))
   pub tree-written : treeAfter ≡ over bytes tree
 

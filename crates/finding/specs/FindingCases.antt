@@ -1,6 +1,5 @@
 -- The cases as a theorem about the contract itself: whatever meets `Finds` on the text, with slices of the required lengths or longer
--- and of any content, gives the paper's values. Each of these sheets has at most one least tree, so the answer and both slices are given
--- whole.
+-- and of any content, gives the papers' values, in the answer and in both slices.
 --
 -- What document 01's reviewer will try, and the theorem that refutes it:
 -- 1. a finder that always says 11: `Refuted.find-always-eleven`; for any sheet `FindingLaws.some-then-zero`;
@@ -9,14 +8,15 @@
 -- 4. an invented total: `FindingLaws.handed-back` (R, D and total are those of the bytes at the front of the tree slice);
 -- 5. "no tree" before looking: `Refuted.find-eleven-for-nine`; for any sheet `FindingLaws.eleven-then-none`;
 -- 6. a pricer that says 12 to everything: `says-12-to-everything` in pricing's `Cases`;
--- 7. a result or a slice unspoken for: `Finding.Result` gives the answer and both slices in each case, and `all-answered` shows that
---    nothing but the choice among least trees is open.
+-- 7. a result or a slice unspoken for: `OneAnswer.one-answer` (two answers to one call are the same, in the answer and in both slices).
+-- And by document 02, (iii), a finder that gives another least tree than the first: `Refuted.find-last-of-equals`,
+-- `Refuted.find-shortest-of-equals`; for any sheet `FindLaws.zero-then-first`.
 use Prim.Native.Nat.{ℕ, _≤_}
 use mathlib.Core.Path.{_≡_, refl, ap, subst, _∙_}
-use mathlib.Core.Bool.{Bool, true, _&&_, false≢true}
+use mathlib.Core.Bool.{true, false≢true}
 use mathlib.Core.List.{List, [], _∷_, map, head-eq-of-cons-eq, tail-eq-of-cons-eq}
 use native.Mathlib.Omega.{arith}
-use borrow.Author.Tests.{eqb-true, le-leb}
+use borrow.Author.Tests.{eqb-true}
 use lib.Dec.{eqb}
 use lib.ListN.{length, take, replicate}
 use Rattle.slices.specs.Every.{Every}
@@ -30,23 +30,18 @@ use Rattle.sheet.specs.Accepted.{Accepts, accepted-good}
 use Rattle.sheet.specs.Cases.{S, sheetS, S-means}
 use Rattle.sizes.specs.Sizes.{treeBytes, workCells}
 use Rattle.sizes.specs.Cases.{S-tree, S-work}
-use Rattle.derivations.specs.Derivation.{Price}
 use Rattle.trees.specs.ValidTrees as trees
-use Rattle.trees.specs.ValidTrees.{bars, ValidTree, totalOf}
-use Rattle.trees.specs.Instance.{instanceOf, Derived}
-use Rattle.trees.specs.Laws.{lawful}
-use Rattle.trees.specs.OneReading.{one-price}
-use Rattle.trees.specs.Equivalence.{valid-derived}
-use Rattle.trees.specs.Found.{LeastTree, own-price}
+use Rattle.trees.specs.ValidTrees.{totalOf}
+use Rattle.trees.specs.LeastTrees.{one-first-tree}
 use Rattle.pricing.specs.declared.Priced.{Priced}
 use Rattle.pricing.specs.Pricing.{Figures, priced, priceSheet, pricedOf}
 use Rattle.pricing.specs.PricingLaws.{price-own}
 use Rattle.finding.specs.Finding.{Search, found, noTree, findSheet, findText, cleared, FoundTree, Result, Gives, Finds}
 use Rattle.finding.specs.Outcomes.{work-short, tree-short, one-found, none-found}
 use Rattle.finding.specs.FindingLaws.{has-tree, has-none, sheet-found}
-use Rattle.finding.specs.EveryReading.{reading-passes}
-use Rattle.finding.specs.Cases.{Case, cases, same, alike, onlyTree, carriesOut, everyList, judgedTree, judged, holds}
-use Rattle.finding.specs.Cases.{all-computed}
+use Rattle.finding.specs.CaseLaws.{alike-eq, first-computed, no-tree}
+use Rattle.finding.specs.Cases.{Case, cases, alike, noneBefore, carriesOut, everyList, judgedTree, judged, holds}
+use Rattle.finding.specs.Cases.{bar-or-halves, equals, all-computed, equals-computed}
 
 -- what is given of a case, and how the slices are left
 pub record Answered (c : Case) (tree treeAfter work workAfter : List ℕ) (answer : Priced) : Type 0 where
@@ -60,65 +55,6 @@ Answers c =
     (tree treeAfter work workAfter : List ℕ) (answer : Priced) → c .cells ≤ length work → c .room ≤ length tree
     → Finds (c .text) tree treeAfter work workAfter answer → Answered c tree treeAfter work workAfter answer
 
--- ---- what was computed means
-
-same-eq : (xs ys : List ℕ) → same xs ys ≡ true → xs ≡ ys
-unfolding same
-same-eq [] [] e = refl
-same-eq [] (y ∷ ys) e = absurd (false≢true e)
-same-eq (x ∷ xs) [] e = absurd (false≢true e)
-same-eq (x ∷ xs) (y ∷ ys) e =
-    let (h, t) = and-both (eqb x y) (same xs ys) e in
-    let a = eqb-true x y h in
-    let b = same-eq xs ys t in
-    λ i. a i ∷ b i
-
-alike-eq : (o o′ : Outcome Figures) → alike o o′ ≡ true → o ≡ o′
-unfolding alike
-alike-eq (accepted x) (accepted y) e =
-    let (a, u) = and-both (eqb (x .nodes) (y .nodes)) _ e in
-    let (b, v) = and-both (eqb (x .weight) (y .weight)) _ u in
-    let (c, d) = and-both (eqb (x .distance) (y .distance)) (eqb (x .total) (y .total)) v in
-    let nodes = eqb-true (x .nodes) (y .nodes) a in
-    let weight = eqb-true (x .weight) (y .weight) b in
-    let distance = eqb-true (x .distance) (y .distance) c in
-    let total = eqb-true (x .total) (y .total) d in
-    λ i. priced (nodes i) (weight i) (distance i) (total i)
-alike-eq (accepted x) (refused k l) e = absurd (false≢true e)
-alike-eq (refused k l) (accepted x) e = absurd (false≢true e)
-alike-eq (refused k l) (refused k′ l′) e =
-    let (a, b) = and-both (eqb k k′) (eqb l l′) e in λ i. refused (eqb-true k k′ a i) (eqb-true l l′ b i)
-
-module _ (s : Sheet) where
-  abbrev owned : (R D : ℕ) → Price
-  owned R D = record { carry = 0; weight = R; distance = D }
-
-  -- a valid tree passes a test that every list passes
-  tested : (test : List ℕ → Price → Bool) → everyList s test ≡ true → (xs : List ℕ) (R D : ℕ) → trees.Priced s xs R D
-      → test xs (owned R D) ≡ true
-  unfolding everyList Derived
-  tested test e xs R D p = reading-passes (instanceOf s) (lawful s) 8 (bars s) 0 test e xs (owned R D) (valid-derived s xs R D p)
-
-  only-tree : (bs : List ℕ) (t : ℕ) → everyList s (onlyTree s bs t) ≡ true → (xs : List ℕ) (R D : ℕ) → trees.Priced s xs R D
-      → totalOf s R D ≤ t → xs ≡ bs
-  unfolding onlyTree
-  only-tree bs t e xs R D p h = same-eq xs bs (rw (le-leb (totalOf s R D) t h) at (tested (onlyTree s bs t) e xs R D p))
-
-  -- so a least tree is these bytes, with their R and D
-  pub one-least : (bs : List ℕ) (n R D t : ℕ) → everyList s (onlyTree s bs t) ≡ true → priceSheet s bs ≡ priced n R D t
-      → (xs : List ℕ) (R′ D′ : ℕ) → LeastTree s xs R′ D′ → (xs ≡ bs) × (R′ ≡ R) × (D′ ≡ D)
-  one-least bs n R D t all e xs R′ D′ l = go (price-own s bs n R D t e)
-    where
-      go : trees.Priced s bs R D × (n ≡ length bs) × (t ≡ totalOf s R D) → (xs ≡ bs) × (R′ ≡ R) × (D′ ≡ D)
-      go (p, en, et) =
-          let is : xs ≡ bs = only-tree bs t all xs R′ D′ (l .valid) (omega (arith, et, l .least bs R D p)) in
-          let (r, d) = one-price s bs R′ D′ R D (subst (λ (ys : List ℕ). trees.Priced s ys R′ D′) is (l .valid)) p in
-          (is, r, d)
-
-  no-tree : everyList s carriesOut ≡ true → (xs : List ℕ) → ValidTree s xs → ⊥
-  unfolding carriesOut
-  no-tree e xs v = let (R, D, p) = own-price s xs v in false≢true (tested carriesOut e xs R D p)
-
 -- ---- what finding gives of them
 
 -- the answer and the slices of a sheet
@@ -127,12 +63,13 @@ pub record AnsweredSheet (s : Sheet) (o : Outcome Figures) (bs tree treeAfter wo
   pub tree-so : treeAfter ≡ over bs tree
   pub work-so : workAfter ≡ cleared s work
 
--- the one least tree is the tree found
-is-found : (s : Sheet) (bs : List ℕ) (n R D t : ℕ) → everyList s (onlyTree s bs t) ≡ true → priceSheet s bs ≡ priced n R D t
+-- the first tree is the tree found
+is-found : (s : Sheet) (bs : List ℕ) (n R D t : ℕ) → everyList s (noneBefore s bs t) ≡ true → priceSheet s bs ≡ priced n R D t
     → {tree treeAfter work workAfter : List ℕ} {answer : Priced} → FoundTree s tree treeAfter answer → workAfter ≡ cleared s work
     → AnsweredSheet s (priced n R D t) bs tree treeAfter work workAfter answer
 is-found s bs n R D t all e {tree} {treeAfter} {work} {workAfter} {answer} g c =
-    go (one-least s bs n R D t all e (g .bytes) (g .weight) (g .distance) (g .least)) (price-own s bs n R D t e)
+    go (one-first-tree s (g .bytes) bs (g .weight) (g .distance) R D (g .first) (first-computed s bs n R D t all e))
+    (price-own s bs n R D t e)
   where
     go : (g .bytes ≡ bs) × (g .weight ≡ R) × (g .distance ≡ D) → trees.Priced s bs R D × (n ≡ length bs) × (t ≡ totalOf s R D)
         → AnsweredSheet s (priced n R D t) bs tree treeAfter work workAfter answer
@@ -152,8 +89,8 @@ module _ (text : List ℕ) (s : Sheet) (a : Accepts text s) {tree treeAfter work
   result-at : (o : Outcome Search) → findSheet s (length tree) (length work) ≡ o → Result o tree treeAfter work workAfter answer
   result-at o e = subst (λ o. Gives o tree treeAfter work workAfter answer) (sheet-found text _ _ s a ∙ e) f .result
 
-  -- there is one least tree
-  tree-answered : (bs : List ℕ) (n R D t : ℕ) → priceSheet s bs ≡ priced n R D t → everyList s (onlyTree s bs t) ≡ true
+  -- there is a first tree
+  tree-answered : (bs : List ℕ) (n R D t : ℕ) → priceSheet s bs ≡ priced n R D t → everyList s (noneBefore s bs t) ≡ true
       → AnsweredSheet s (priced n R D t) bs tree treeAfter work workAfter answer
   tree-answered bs n R D t e all =
       let r = result-at (accepted (found s)) (one-found s _ _ w room (has-tree s ok bs (price-own s bs n R D t e .0 .valid))) in
@@ -172,13 +109,9 @@ module _ (text : List ℕ) (s : Sheet) (a : Accepts text s) {tree treeAfter work
   sheet-answered (accepted p) bs e =
       let (a, b) = and-both (alike (priceSheet s bs) (accepted p)) _ e in
       tree-answered bs (p .nodes) (p .weight) (p .distance) (p .total) (alike-eq _ _ a) b
-  sheet-answered (refused k n) bs e = go (and-both (alike (refused k n) (refused 11 0)) _ e)
-    where
-      go : (alike (refused k n) (refused 11 0) ≡ true) × ((same bs [] && everyList s carriesOut) ≡ true)
-          → AnsweredSheet s (refused k n) bs tree treeAfter work workAfter answer
-      go (a, b) =
-          let (x, y) = and-both (same bs []) _ b in
-          rw (alike-eq (refused k n) (refused 11 0) a, same-eq bs [] x) (none-answered y)
+  sheet-answered (refused k n) [] e =
+      let (a, b) = and-both (alike (refused k n) (refused 11 0)) _ e in rw (alike-eq (refused k n) (refused 11 0) a) (none-answered b)
+  sheet-answered (refused k n) (b ∷ bs) e = absurd (false≢true e)
 
 case-answered : (c : Case) → holds c ≡ true → Answers c
 unfolding holds judged
@@ -207,6 +140,10 @@ each (c ∷ cs) e = (case-answered c (head-eq-of-cons-eq e), each cs (tail-eq-of
 pub all-answered : Every Answers cases
 all-answered = each cases all-computed
 
+-- of two least trees the first
+pub equals-answered : Every Answers equals
+equals-answered = each equals equals-computed
+
 -- S: number 0, line 0, three nodes, R 8, D 1,008, total 1,088, and `010303` at the front of the tree slice
 pub S-found : (tree treeAfter work workAfter : List ℕ) (answer : Priced) → 464 ≤ length work → 161 ≤ length tree
     → Finds S tree treeAfter work workAfter answer
@@ -215,6 +152,15 @@ unfolding pricedOf
 S-found tree treeAfter work workAfter answer w t f =
     let g = all-answered .0 tree treeAfter work workAfter answer w t f in
     (g .answer-is, ap (take 3) (g .tree-is) ∙ take-over (1 ∷ 3 ∷ 3 ∷ []) tree (omega arith))
+
+-- document 02, (iii): "`00` and `010403` both total 5,040, and `00` is given"
+pub bar-or-halves-found : (tree treeAfter work workAfter : List ℕ) (answer : Priced) → 240 ≤ length work → 81 ≤ length tree
+    → Finds bar-or-halves tree treeAfter work workAfter answer
+    → (answer ≡ record { number = 0; line = 0; nodes = 1; weight = 1; distance = 5040; total = 5040 }) × (take 1 treeAfter ≡ 0 ∷ [])
+unfolding pricedOf
+bar-or-halves-found tree treeAfter work workAfter answer w t f =
+    let g = equals-answered .0 tree treeAfter work workAfter answer w t f in
+    (g .answer-is, ap (take 1) (g .tree-is) ∙ take-over (0 ∷ []) tree (omega arith))
 
 -- "9: S with 463 cells", whatever the tree slice; "10: S with 160 bytes", with enough cells
 pub S-nine : (tree : ℕ) → findText S tree 463 ≡ refused 9 0

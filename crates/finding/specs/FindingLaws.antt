@@ -1,6 +1,6 @@
 -- What finding promises of valid trees, from `Finds` alone: demand 3 in its own words. With slices of the required lengths number 0 is
 -- given exactly when some list of bytes is a valid tree, and 11 exactly when no list of any length is; with a shorter slice or a refused
--- text neither is. What is handed back is valid, its figures are its own, and no valid tree totals less.
+-- text neither is. What is handed back is valid, its figures are its own, no valid tree totals less, and it is the first of the least.
 use Prim.Native.Nat.{ℕ, zero, suc, _≤_, _<_}
 use mathlib.Core.Path.{_≡_, refl, sym, ap, subst, _∙_}
 use mathlib.Core.Bool.{Bool, true, false}
@@ -25,7 +25,8 @@ use Rattle.trees.specs.ValidTrees.{adjoining, bars, ValidTree, totalOf}
 use Rattle.trees.specs.Instance.{instanceOf, Derived}
 use Rattle.trees.specs.Equivalence.{valid-derived}
 use Rattle.trees.specs.LeastTotal.{NONE, leastTotal}
-use Rattle.trees.specs.Found.{LeastTree, own-price, first-tree, least-total-below}
+use Rattle.trees.specs.LeastTrees.{FirstTree}
+use Rattle.trees.specs.Found.{own-price, first-tree, least-total-below}
 use Rattle.trees.specs.Theorems.{valid-bytes, node-count, total-below}
 use Rattle.pricing.specs.declared.Priced.{Priced}
 use Rattle.pricing.specs.Pricing.{priceSheet, pricedOf}
@@ -48,16 +49,16 @@ module _ (s : Sheet) (ok : Good s) where
       let (R, D, p) = own-price s bs v in
       lt-ltb (leastTotal s) NONE (omega (arith, least-total-below s (ok .rules) bs R D p, total-below s ok bs R D p))
 
-  -- and nowhere else: it is one of bytes, and least
+  -- and nowhere else: it is one of bytes, and the first of the least
   pub some-tree : hasTree s ≡ true
-      → (bs : List ℕ) × (R : ℕ) × (D : ℕ) × LeastTree s bs R D × Every (λ (b : ℕ). b < 256) bs
+      → (bs : List ℕ) × (R : ℕ) × (D : ℕ) × FirstTree s bs R D × Every (λ (b : ℕ). b < 256) bs
   unfolding hasTree
   some-tree e =
       let (bs, R, D, f, same) = first-tree s (ok .rules) (ltb-true (leastTotal s) NONE e) in (
         bs,
         R,
         D,
-        f .tree,
+        f,
         every-weaken _ _ (λ r h. omega (arith, h, ok .rules .most)) bs (valid-bytes s bs (f .tree .valid .valid)),
       )
 
@@ -66,7 +67,7 @@ module _ (s : Sheet) (ok : Good s) where
   has-none h = go (hasTree s) refl
     where
       go : (b : Bool) → hasTree s ≡ b → b ≡ false
-      go true e = let t = some-tree e in absurd (h (t .0) (t .3 .valid .valid))
+      go true e = let t = some-tree e in absurd (h (t .0) (t .3 .tree .valid .valid))
       go false e = refl
 
   -- no byte is no tree
@@ -85,8 +86,9 @@ module _ (s : Sheet) (ok : Good s) where
 -- what number 0 tells of a sheet
 pub record TreeHandedBack (s : Sheet) (tree treeAfter work workAfter : List ℕ) (answer : Priced) : Type 0 where
   pub outcome : findSheet s (length tree) (length work) ≡ accepted (found s)
-  -- the tree handed back is the bytes at the front of the tree slice: a valid tree with the figures given, and none totals less
-  pub least : LeastTree s (take (answer .nodes) treeAfter) (answer .weight) (answer .distance)
+  -- the tree handed back is the bytes at the front of the tree slice: a valid tree with the figures given, none totals less, and of those
+  -- that total as much it is the first
+  pub first : FirstTree s (take (answer .nodes) treeAfter) (answer .weight) (answer .distance)
   pub total : answer .total ≡ totalOf s (answer .weight) (answer .distance)
   -- the answer is what pricing it gives
   pub own : answer ≡ pricedOf (priceSheet s (take (answer .nodes) treeAfter))
@@ -109,10 +111,10 @@ module _ (s : Sheet) (ok : Good s) {tree treeAfter work workAfter : List ℕ} {a
   from-tree o room t c =
       record {
         outcome = o;
-        least = rw (front, weight, distance) (t .least);
+        first = rw (front, weight, distance) (t .first);
         total = ap (λ (p : Priced). p .total) (t .figures) ∙ rw (weight, distance) refl;
         own =
-            t .figures ∙ ap pricedOf (sym (tree-priced s (t .bytes) (t .weight) (t .distance) (t .least .valid)))
+            t .figures ∙ ap pricedOf (sym (tree-priced s (t .bytes) (t .weight) (t .distance) (t .first .tree .valid)))
             ∙ ap (λ (bs : List ℕ). pricedOf (priceSheet s bs)) (sym front);
         within = omega (arith, nodes, fits, ap length (t .tree-written), length-over (t .bytes) tree);
         written = t .tree-written ∙ ap (λ (bs : List ℕ). over bs tree) (sym front);
@@ -130,7 +132,7 @@ module _ (s : Sheet) (ok : Good s) {tree treeAfter work workAfter : List ℕ} {a
       distance = ap (λ (p : Priced). p .distance) (t .figures)
 
       fits : length (t .bytes) ≤ length tree
-      fits = omega (arith, room, tree-fits s ok (t .bytes) (t .least .valid .valid))
+      fits = omega (arith, room, tree-fits s ok (t .bytes) (t .first .tree .valid .valid))
 
       front : take (answer .nodes) treeAfter ≡ t .bytes
       front = rw (nodes, t .tree-written) (take-over (t .bytes) tree fits)
@@ -220,7 +222,7 @@ module _ (text : List ℕ) {tree treeAfter work workAfter : List ℕ} {answer : 
         -- 0 only where some list of bytes is a valid tree
         pub zero-then-some : answer .number ≡ 0 → (bs : List ℕ) × ValidTree s bs × Every (λ (b : ℕ). b < 256) bs
         zero-then-some z = elim by-tree [
-          | inl e ↦ let x = some-tree s ok e in (x .0, x .3 .valid .valid, x .4)
+          | inl e ↦ let x = some-tree s ok e in (x .0, x .3 .tree .valid .valid, x .4)
           | inr e ↦ let q = numbered _ (none-found s _ _ w t e) in let f : ⊥ = omega arith in absurd f
         ]
 

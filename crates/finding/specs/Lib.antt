@@ -1,9 +1,11 @@
 pub mod Finding
 pub mod Contracts
 pub mod Outcomes
+pub mod OneAnswer
 pub mod FindingLaws
 pub mod FindLaws
 pub mod EveryReading
 pub mod Cases
+pub mod CaseLaws
 pub mod FindingCases
 pub mod Refuted

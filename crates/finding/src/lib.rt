@@ -1,4 +1,4 @@
-// Finding a least tree of the sheet that a text means.
+// Finding the first least tree of the sheet that a text means.
 ghost use mathlib.Core.Path.{_≡_};
 ghost use Prim.Native.Nat.{ℕ, _≤_, _<_};
 ghost use lib.ListN.{length};
@@ -76,7 +76,7 @@ fn figures(grammar: GrammarTable, list: &[u8], total: u64) -> Priced
     }
 }
 
-// Finds a least tree with slices of the required lengths: 11 where there is no tree, and else what pricing the tree gives.
+// Finds the first least tree with slices of the required lengths: 11 where there is no tree, and else what pricing the tree gives.
 fn find_least(
     grammar: GrammarTable,
     playing: PlayingTable,
@@ -95,7 +95,8 @@ fn find_least(
     }
 }
 
-// Finds a least tree of a sheet as it was read: 9 where the work slice is short, 10 where the tree slice is, 11 where there is no tree.
+// Finds the first least tree of a sheet as it was read: 9 where the work slice is short, 10 where the tree slice is, 11 where there is no
+// tree.
 pub fn find_sheet(
     grammar: GrammarTable,
     playing: PlayingTable,
@@ -116,8 +117,8 @@ pub fn find_sheet(
     find_least(grammar, playing, tree, work)
 }
 
-// Finds a least tree of the sheet that a text means: its bytes go to the front of the tree slice; its node count, R, D and total are given.
-// Reading's refusal comes first. The required work cells are 0 after a tree and after 11; every other cell and byte is kept.
+// Finds the first least tree of the sheet that a text means: its bytes go to the front of the tree slice; its node count, R, D and total
+// are given. Reading's refusal comes first. The required work cells are 0 after a tree and after 11; every other cell and byte is kept.
 pub fn find(text: &[u8], tree: &mut [u8], work: &mut [u64]) -> Priced
     ensures { λ r. ⌜ Finds (now (text .entry)) (now (tree .entry)) (now (tree .exit)) (now (work .entry)) (now (work .exit)) r ⌝ }
 {

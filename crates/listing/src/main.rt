@@ -1,11 +1,13 @@
 // Compares finding with a search by listing all trees, on small sheets that are read from standard input. Every valid tree of a sheet is
 // made by expanding every item with every rule, in the words of documents 01 and 02 and with nothing taken from the search; each is priced.
-// Printed: the number of trees, the least total, and whether finding gives one of the trees with that total, or 11 where there is none.
+// Printed: the number of trees, the least total and how many trees have it, whether finding gives the first of these, or 11 where there is
+// none, and the bytes that it gives. Lists are made in dictionary order, since at each item the rules are tried from 0 up.
 ghost use mathlib.Core.Path.{_≡_};
 ghost use lib.ListN.{length};
 use case_text::behind;
 use case_text::least;
 use case_text::place_of;
+use case_text::print_front;
 use case_text::wide;
 use expansions::PackedRules;
 use expansions::PackedUnits;
@@ -18,7 +20,6 @@ use items::is_allowed;
 use items::move_at;
 use items::next_item;
 use items::place_behind;
-use pricing::Priced;
 use sheet::BAR_UNITS;
 use sheet::Children;
 use sheet::ONSETS_MOST;
@@ -26,69 +27,14 @@ use sheet::RULES_MOST;
 use sheet::Reading;
 use sheet::Units;
 use sizes::TREE_BYTES_MOST;
+use tally::NONE;
+use tally::Tally;
+use tally::gone_wrong;
+use tally::print_tally;
+use tally::with_list;
 
 mod items;
-
-// What the listing has come to: the number of trees, the least total, the total of the tree that finding gave, where it was met, and how
-// many lists went wrong: they were refused by pricing, or longer than any tree. Where there is no total yet it is NONE.
-struct Tally {
-    trees: u64,
-    least: u64,
-    own: u64,
-    wrong: u64,
-}
-
-const NONE: u64 = 18446744073709551615;
-
-fn one_more(n: u64) -> u64 {
-    if n < NONE {
-        return n + 1;
-    }
-    n
-}
-
-fn gone_wrong(t: Tally) -> Tally {
-    Tally {
-        trees: t.trees,
-        least: t.least,
-        own: t.own,
-        wrong: one_more(t.wrong),
-    }
-}
-
-fn same(a: &[u8], b: &[u8]) -> bool {
-    if a.len() != b.len() {
-        return false;
-    }
-    let mut i: usize = 0;
-    while i < a.len() {
-        if a[i] != b[i] {
-            return false;
-        }
-        i += 1;
-    }
-    true
-}
-
-// A list that leaves no item: it is a tree where nothing is carried out.
-fn with_list(text: &[u8], found: &[u8], list: &[u8], carried: u8, t: Tally) -> Tally {
-    if carried != 0 {
-        return t;
-    }
-    let p = pricing::price(text, list);
-    if p.number != 0 {
-        return gone_wrong(t);
-    }
-    let total = p.total;
-    let lowest = if total < t.least { total } else { t.least };
-    let own = if same(found, list) { total } else { t.own };
-    Tally {
-        trees: one_more(t.trees),
-        least: lowest,
-        own,
-        wrong: t.wrong,
-    }
-}
+mod tally;
 
 // Adds every tree that begins with the first `nodes` bytes of the list, which leave p to be derived.
 fn explore<'a>(
@@ -136,7 +82,8 @@ fn list_all<'a>(text: &'a [u8], sheet: Reading, found: &'a [u8], list: &mut [u8]
     let none = Tally {
         trees: 0,
         least: NONE,
-        own: NONE,
+        equals: 0,
+        first_found: false,
         wrong: 0,
     };
     let grammar = sheet.grammar;
@@ -160,45 +107,22 @@ fn list_all<'a>(text: &'a [u8], sheet: Reading, found: &'a [u8], list: &mut [u8]
     explore(text, &rules, &children, &units, found, list, 0, bars, none)
 }
 
-// Whether finding gave what listing comes to.
-fn agree(t: Tally, f: Priced) -> bool {
-    if t.wrong != 0 {
-        return false;
+// Prints the bytes of a tree, if there are any, and closes the line.
+fn print_tree(tree: &[u8], page: &mut [u8]) {
+    if tree.len() != 0 {
+        io::write_all(1, b" ");
     }
-    if f.number == 11 {
-        return t.trees == 0;
-    }
-    if f.number != 0 {
-        return false;
-    }
-    if t.own != t.least {
-        return false;
-    }
-    f.total == t.least
+    let stop = hextext::write_line(tree, page, 0);
+    print_front(page, stop);
 }
 
-fn print_tally(t: Tally, f: Priced) {
-    io::write_all(1, b": trees ");
-    io::print_decimal(1, t.trees);
-    if t.trees == 0 {
-        io::write_all(1, b", none");
-    } else {
-        io::write_all(1, b", least ");
-        io::print_decimal(1, t.least);
-    }
-    if agree(t, f) {
-        io::write_all(1, b", same\n");
-    } else {
-        io::write_all(1, b", DIFFERENT\n");
-    }
-}
-
-// Finds a tree of a sheet, lists all of them and prints the comparison.
+// Finds the first least tree of a sheet, lists all its trees and prints the comparison.
 fn compare(text: &[u8], tree: &mut [u8], work: &mut [u64], list: &mut [u8]) {
     let f = finding::find(text, tree, work);
     let nodes = least(f.nodes, tree.len());
     let t = list_all(text, reading::read(text), &tree[..nodes], list);
     print_tally(t, f);
+    print_tree(&tree[..nodes], list);
 }
 
 // Each sheet of the input: it starts behind a line that begins with # and names it, and ends before the next #.

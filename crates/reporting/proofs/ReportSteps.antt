@@ -106,12 +106,12 @@ module _ {s : Sheet} {g : GrammarTable} {p : PlayingTable} (h : SheetHeld s g p)
 
     -- no tree has more bytes than are put back
     few : length bytes ≤ treeMost
-    few = nodes-most s (h .good) bytes (back .least .valid .valid)
+    few = nodes-most s (h .good) bytes (back .first .tree .valid .valid)
 
     -- writing gives its score lines, or 13
     wrote : (room : ℕ) → writeSheet s bytes room ≡ textWithin room lines
     unfolding writeSheet
-    wrote room = ap (writePriced s bytes room) (tree-priced s bytes _ _ (back .least .valid))
+    wrote room = ap (writePriced s bytes room) (tree-priced s bytes _ _ (back .first .tree .valid))
 
     module _ (score scoreOut : List ℕ) (w : Written)
         (told : (w ≡ writtenOf (writeSheet s bytes (length score)))
@@ -148,7 +148,7 @@ module _ {s : Sheet} {g : GrammarTable} {p : PlayingTable} (h : SheetHeld s g p)
               bytes = bytes;
               weight = x .weight;
               distance = x .distance;
-              least = back .least;
+              first = back .first;
               tree-is = t;
               page = p;
             },

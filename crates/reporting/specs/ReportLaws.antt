@@ -1,5 +1,5 @@
 -- What `report` prints of a text that is refused or means a sheet, from `Reports` alone: the line of the refusal, with the tree and score
--- slices kept; or the score text of a least tree, which then stands in the tree slice.
+-- slices kept; or the score text of the first least tree, which then stands in the tree slice.
 use Prim.Native.Nat.{ℕ, _≤_, _<_}
 use mathlib.Core.Path.{_≡_, ap, subst, _∙_}
 use mathlib.Core.List.{List, _++_}
@@ -11,7 +11,7 @@ use Rattle.slices.specs.Over.{over, over-drop}
 use Rattle.sheet.specs.Sheet.{Sheet}
 use Rattle.sizes.specs.Sizes.{treeBytes, workCells}
 use Rattle.trees.specs.ValidTrees.{ValidTree}
-use Rattle.trees.specs.Found.{LeastTree}
+use Rattle.trees.specs.LeastTrees.{FirstTree}
 use Rattle.sheet.specs.Outcome.{Outcome, refused, accepted}
 use Rattle.sheet.specs.Accepted.{Refuses, Accepts}
 use Rattle.score.specs.WritingLaws.{scoreOf, own-text}
@@ -32,21 +32,22 @@ abbrev pub ScoreShown : (text bytes tree tree′ score score′ line′ : List �
 ScoreShown text bytes tree tree′ score score′ line′ r =
     (printed r score′ line′ ≡ text) × (tree′ ≡ over bytes tree) × (score′ ≡ text ++ drop (length text) score)
 
--- this of a least tree of the sheet; or the line of refusal 13, where the score slice is short of its text
+-- this of the first least tree of the sheet; or the line of refusal 13, where the score slice is short of its text
 abbrev pub Scored : Sheet → (tree tree′ score score′ line′ : List ℕ) → Shown → Type 0
 Scored s tree tree′ score score′ line′ r =
-    (bytes : List ℕ) × (R : ℕ) × (D : ℕ) × (t : LeastTree s bytes R D)
-    × (((length score < length (scoreOf s (t .valid))) × LineOnly 13 0 tree tree′ score score′ line′ r)
-    ⊎ ((length (scoreOf s (t .valid)) ≤ length score) × ScoreShown (scoreOf s (t .valid)) bytes tree tree′ score score′ line′ r))
+    (bytes : List ℕ) × (R : ℕ) × (D : ℕ) × (t : FirstTree s bytes R D)
+    × (((length score < length (scoreOf s (t .tree .valid))) × LineOnly 13 0 tree tree′ score score′ line′ r)
+    ⊎ ((length (scoreOf s (t .tree .valid)) ≤ length score)
+    × ScoreShown (scoreOf s (t .tree .valid)) bytes tree tree′ score score′ line′ r))
 
 module _ (s : Sheet) {tree tree′ score score′ line line′ : List ℕ} {r : Shown} (p : PrintsTree s tree tree′ score score′ line line′ r) where
   abbrev lines : List ℕ
-  lines = scoreOf s (p .least .valid)
+  lines = scoreOf s (p .first .tree .valid)
 
   of-page : (g : Outcome (List ℕ)) → textWithin (length score) lines ≡ g
       → (printed r score′ line′ ≡ pageText g) × (tree′ ≡ treeWith g (p .bytes) tree) × (score′ ≡ scoreAfter g score)
   of-page g q =
-      let e = ap (textWithin (length score)) (own-text s (p .least .valid)) ∙ q in (
+      let e = ap (textWithin (length score)) (own-text s (p .first .tree .valid)) ∙ q in (
         p .page .text ∙ ap pageText e,
         p .tree-is ∙ ap (λ (g : Outcome (List ℕ)). treeWith g (p .bytes) tree) e,
         p .page .score-is ∙ ap (λ (g : Outcome (List ℕ)). scoreAfter g score) e,
@@ -58,7 +59,7 @@ module _ (s : Sheet) {tree tree′ score score′ line line′ : List ℕ} {r : 
     p .bytes,
     p .weight,
     p .distance,
-    p .least,
+    p .first,
     elim (decLe (length lines) (length score)) [
       | yes h ↦ let g = of-page (accepted lines) (within-lines (length score) lines h) in
           inr (h, (g .0, g .1, g .2 ∙ over-drop lines score h))
@@ -94,7 +95,7 @@ module _ (text : List ℕ) {tree tree′ work work′ score score′ line line�
         no-tree-then-eleven n =
             let (p, t, w) = given (accepted (noTree s)) (outcome-eleven text _ _ s a w t n) in ((p .text, t, p .score-is), w)
 
-        -- a least tree: its score text, or 13 where the score slice is short of it
+        -- the first least tree: its score text, or 13 where the score slice is short of it
         pub some-then-score : (bs : List ℕ) → ValidTree s bs → Scored s tree tree′ score score′ line′ r × (work′ ≡ cleared s work)
         some-then-score bs v =
             let (p, c) = given (accepted (found s)) (outcome-found text _ _ s a w t bs v) in (scored s p, c)

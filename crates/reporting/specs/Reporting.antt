@@ -9,7 +9,7 @@ use Rattle.hextext.specs.Written.{lineText}
 use Rattle.sheet.specs.Sheet.{Sheet}
 use Rattle.sheet.specs.Outcome.{Outcome, refused, accepted}
 use Rattle.trees.specs.ValidTrees.{totalOf}
-use Rattle.trees.specs.Found.{LeastTree}
+use Rattle.trees.specs.LeastTrees.{FirstTree}
 use Rattle.hextext.specs.Fields.{bigEndian}
 use Rattle.score.specs.Score.{treeText}
 use Rattle.score.specs.Writing as writing
@@ -58,12 +58,13 @@ pub record Prints (page : Outcome (List ℕ)) (score scoreAfter line lineAfter :
   pub score-is : scoreAfter ≡ writing.scoreAfter page score
   pub line-is : lineAfter ≡ lineWith page line
 
--- a least tree of the sheet, its score lines as far as the score slice has room, and with them the tree at the front of the tree slice
+-- the first least tree of the sheet, its score lines as far as the score slice has room, and with them the tree at the front of the tree
+-- slice
 pub record PrintsTree (s : Sheet) (tree treeAfter score scoreAfter line lineAfter : List ℕ) (answer : Shown) : Type 0 where
   pub bytes : List ℕ
   pub weight : ℕ
   pub distance : ℕ
-  pub least : LeastTree s bytes weight distance
+  pub first : FirstTree s bytes weight distance
   pub tree-is : treeAfter ≡ treeWith (pageOf s bytes weight distance (length score)) bytes tree
   pub page : Prints (pageOf s bytes weight distance (length score)) score scoreAfter line lineAfter answer
 

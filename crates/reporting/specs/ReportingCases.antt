@@ -16,7 +16,7 @@ use Rattle.derivations.specs.Minima.{lowest}
 use Rattle.derivations.specs.Folds.{via, forward}
 use Rattle.trees.specs.ValidTrees.{whose, distanceTo}
 use Rattle.trees.specs.LeastTotal.{leastTotal}
-use Rattle.trees.specs.Found.{LeastTree}
+use Rattle.trees.specs.LeastTrees.{FirstTree, one-first-tree}
 use Rattle.pricing.specs.Pricing.{priceSheet}
 use Rattle.hextext.specs.Fields.{bigEndian}
 use Rattle.score.specs.Cases.{linesOfS, S-score}
@@ -26,8 +26,8 @@ use Rattle.score.specs.Writing.{textWithin}
 use Rattle.finding.specs.Finding.{hasTree, Search, found, findText}
 use Rattle.finding.specs.Outcomes.{one-found}
 use Rattle.finding.specs.FindingLaws.{sheet-found}
-use Rattle.finding.specs.Cases.{onlyTree, everyList}
-use Rattle.finding.specs.FindingCases.{one-least}
+use Rattle.finding.specs.Cases.{noneBefore, everyList}
+use Rattle.finding.specs.CaseLaws.{first-computed}
 use Rattle.reporting.specs.Reporting.{refusalLine, pageText, treeWith, printed, PrintsTree, Printed, Reports}
 use Rattle.reporting.specs.ReportingLaws.{within-lines, within-short}
 
@@ -44,10 +44,10 @@ S-has-tree : hasTree sheetS ≡ true
 unfolding hasTree leastTotal whose distanceTo Option·elim lowest via forward onto
 S-has-tree = refl
 
--- the least tree of S
-S-least : (bytes : List ℕ) (R D : ℕ) → LeastTree sheetS bytes R D → (bytes ≡ 1 ∷ 3 ∷ 3 ∷ []) × (R ≡ 8) × (D ≡ 1008)
-unfolding everyList onlyTree priceSheet onto whose distanceTo Option·elim
-S-least = one-least sheetS (1 ∷ 3 ∷ 3 ∷ []) 3 8 1008 1088 refl refl
+-- the tree of S
+S-first : FirstTree sheetS (1 ∷ 3 ∷ 3 ∷ []) 8 1008
+unfolding everyList noneBefore priceSheet onto whose distanceTo Option·elim
+S-first = first-computed sheetS (1 ∷ 3 ∷ 3 ∷ []) 3 8 1008 1088 refl refl
 
 module _ (tree treeAfter work workAfter score scoreAfter line lineAfter : List ℕ) (shown : Shown) (w : 464 ≤ length work)
     (t : 161 ≤ length tree) (r : Reports S tree treeAfter work workAfter score scoreAfter line lineAfter shown) where
@@ -65,7 +65,7 @@ module _ (tree treeAfter work workAfter score scoreAfter line lineAfter : List �
 
   -- what is printed, and the tree slice
   S-shown : (printed shown scoreAfter lineAfter ≡ pageText page) × (treeAfter ≡ treeWith page (1 ∷ 3 ∷ 3 ∷ []) tree)
-  S-shown = go S-page (S-least (S-page .bytes) (S-page .weight) (S-page .distance) (S-page .least))
+  S-shown = go S-page (one-first-tree sheetS (S-page .bytes) _ (S-page .weight) (S-page .distance) _ _ (S-page .first) S-first)
     where
       go : (p : PrintsTree sheetS tree treeAfter score scoreAfter line lineAfter shown)
           → (p .bytes ≡ 1 ∷ 3 ∷ 3 ∷ []) × (p .weight ≡ 8) × (p .distance ≡ 1008)

@@ -1,4 +1,4 @@
--- What the entry behind the program prints, from `Reports` alone: the score lines of a least tree, or the line of a refusal.
+-- What the entry behind the program prints, from `Reports` alone: the score lines of the first least tree, or the line of a refusal.
 use Prim.Native.Nat.{ℕ, _≤_, _<_}
 use mathlib.Core.Path.{_≡_, refl, sym, ap, _∙_}
 use mathlib.Core.Bool.{true, false, false≢true}

@@ -1,4 +1,4 @@
-// The entry behind the program: the score lines of a least tree of the sheet that a text means, or the line of a refusal.
+// The entry behind the program: the score lines of the first least tree of the sheet that a text means, or the line of a refusal.
 ghost use mathlib.Core.Path.{_≡_};
 ghost use Prim.Native.Nat.{_≤_, _<_};
 ghost use lib.ListN.{length, take};
@@ -129,9 +129,9 @@ fn restore(shown: Shown, kept: &[u8; TREE_BYTES_MOST], tree: &mut [u8], n: usize
     }
 }
 
-// Finds a least tree of the sheet that a text means and writes its score lines; or composes the line of a refusal, 13 where the score slice
-// is short. The answer says where the text to print stands. A refusal leaves the tree slice as it was. The required work cells are 0 after
-// 13 too, not after 11 alone, since a tree was found first; the program's are 0 before, so that for it this is the same.
+// Finds the first least tree of the sheet that a text means and writes its score lines; or composes the line of a refusal, 13 where the
+// score slice is short. The answer says where the text to print stands. A refusal leaves the tree slice as it was. The required work cells
+// are 0 after 13 too, not after 11 alone, since a tree was found first; the program's are 0 before, so that for it this is the same.
 pub fn report(
     text: &[u8],
     work: &mut [u64],

@@ -1,5 +1,5 @@
-// Reads a sheet from standard input and prints the score lines of a least tree, or one line with the refusal. One byte more than a sheet
-// may have is read, so that a longer input is seen to be too long.
+// Reads a sheet from standard input and prints the score lines of the first least tree, or one line with the refusal. One byte more than a
+// sheet may have is read, so that a longer input is seen to be too long.
 use reporting::REFUSAL_LINE_BYTES;
 use reporting::SCORE_BYTES;
 use reporting::Shown;

@@ -17,7 +17,7 @@ use Rattle.derivations.specs.Folds.{forward}
 use Rattle.trees.specs.ValidTrees.{adjoining, totalOf}
 use Rattle.trees.specs.Instance.{instanceOf}
 use Rattle.trees.specs.LeastTotal.{NONE, carries, cellOf, leastTotal}
-use Rattle.trees.specs.Found.{FirstTree}
+use Rattle.trees.specs.LeastTrees.{FirstTree}
 use Rattle.sizes.specs.Sizes.{mostInBar, treeBytes, workCells}
 use Rattle.expansions.specs.Tables.{UnitsHeld}
 use Rattle.expansions.specs.Items.{firstAt}

@@ -1,5 +1,5 @@
-// The search for a least tree of a sheet, bar after bar: the rows of bars up to a bar line that nothing is carried over, then the suffix
-// costs behind them from the last of these bars to the first, and then their trees from the first to the last.
+// The search for the first least tree of a sheet, bar after bar: the rows of bars up to a bar line that nothing is carried over, then the
+// suffix costs behind them from the last of these bars to the first, and then their trees from the first to the last.
 ghost use mathlib.Core.Path.{_≡_};
 ghost use Prim.Native.Nat.{_≤_};
 ghost use lib.ListN.{length, take};

@@ -23,7 +23,8 @@ use Rattle.trees.specs.LeastTotal.{NONE, leastTotal}
 use Rattle.trees.specs.Cases.{Verdict, least, no-tree, priced, no-valid, Case, pricedAs, isTree, judged, judgedOf}
 use Rattle.trees.specs.Cases.{holds, cases, all-computed}
 use Rattle.trees.specs.Equivalence.{valid-derived, derived-valid}
-use Rattle.trees.specs.Found.{LeastTree, own-price, least-total-below}
+use Rattle.trees.specs.LeastTrees.{LeastTree}
+use Rattle.trees.specs.Found.{own-price, least-total-below}
 use Rattle.trees.specs.Theorems.{none-valid}
 
 -- what a verdict says of a sheet

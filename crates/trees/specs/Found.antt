@@ -2,7 +2,8 @@
 -- much, the first of the least in dictionary order.
 use Prim.Native.Nat.{ℕ, _≤_, _<_}
 use mathlib.Core.Path.{_≡_, refl, ap, _∙_}
-use mathlib.Core.List.{List}
+use mathlib.Core.List.{List, [], _∷_}
+use mathlib.Core.Logic.{inl, inr}
 use mathlib.Core.Option.{some}
 use native.Mathlib.Omega.{arith}
 use Rattle.slices.specs.Every.{every-all}
@@ -17,6 +18,7 @@ use Rattle.derivations.specs.Cells.{cell-exact}
 use Rattle.derivations.specs.Rebuild.{first-exists}
 use Rattle.trees.specs.ValidTrees.{bars, ValidTree, Priced, totalOf}
 use Rattle.trees.specs.Instance.{instanceOf, Derived}
+use Rattle.trees.specs.LeastTrees.{InDictionaryOrder, FirstTree}
 use Rattle.trees.specs.LeastTotal.{NONE, carries, cellOf, leastTotal}
 use Rattle.trees.specs.Laws.{lawful, falls}
 use Rattle.trees.specs.Equivalence.{valid-derived, derived-valid}
@@ -25,17 +27,14 @@ use Rattle.trees.specs.Equivalence.{valid-derived, derived-valid}
 pub own-price : (s : Sheet) (bs : List ℕ) → ValidTree s bs → (R : ℕ) × (D : ℕ) × Priced s bs R D
 own-price s bs v = (_, _, record { valid = v; weight = refl; distance = refl })
 
+-- the order of lists that are read against the same items is dictionary order
+lex-ordered : (xs ys : List ℕ) → Lex xs ys → InDictionaryOrder xs ys
+lex-ordered [] ys h = tt
+lex-ordered (x ∷ xs) [] h = absurd h
+lex-ordered (x ∷ xs) (y ∷ ys) (inl h) = inl h
+lex-ordered (x ∷ xs) (y ∷ ys) (inr (e, h)) = inr (e, lex-ordered xs ys h)
+
 module _ (s : Sheet) where
-  -- of all valid trees none totals less
-  pub record LeastTree (bytes : List ℕ) (R D : ℕ) : Type 0 where
-    pub valid : Priced s bytes R D
-    pub least : (xs : List ℕ) (R′ D′ : ℕ) → Priced s xs R′ D′ → totalOf s R D ≤ totalOf s R′ D′
-
-  -- and of those that total as little it is the first in dictionary order
-  pub record FirstTree (bytes : List ℕ) (R D : ℕ) : Type 0 where
-    pub tree : LeastTree bytes R D
-    pub first : (xs : List ℕ) (R′ D′ : ℕ) → Priced s xs R′ D′ → totalOf s R′ D′ ≤ totalOf s R D → Lex bytes xs
-
   module _ (good : GoodRules (s .grammar)) where
     abbrev a : ℕ
     a = s .grammar .multiplier
@@ -77,19 +76,24 @@ module _ (s : Sheet) where
       pub first-total-is : totalOf s (p .weight) (p .distance) ≡ leastTotal s
       first-total-is = omega (arith, least-is, zero-cost)
 
-      pub first-is-tree : FirstTree bs (p .weight) (p .distance)
+      valid-first : Priced s bs (p .weight) (p .distance)
+      unfolding Derived
+      valid-first =
+          derived-valid s bs (p .weight) (p .distance)
+          (f .reads ∙ ap some (price-eq p (priceOf0 (p .weight) (p .distance)) none-out refl refl))
+
+      pub first-is-tree : FirstTree s bs (p .weight) (p .distance)
       unfolding Derived
       first-is-tree = record {
-        tree = record {
-          valid = derived-valid s bs (p .weight) (p .distance)
-              (f .reads ∙ ap some (price-eq p (priceOf0 (p .weight) (p .distance)) none-out refl refl));
-          least = λ xs R D q. omega (arith, first-total-is, least-total-below xs R D q);
-        };
-        first = λ xs R D q k. f .first xs (priceOf0 R D) (valid-derived s xs R D q) (omega (arith, zero-cost, total-priced R D));
+        tree = record { valid = valid-first; least = λ xs R D q. omega (arith, first-total-is, least-total-below xs R D q) };
+        first = λ xs R D l.
+            lex-ordered bs xs
+            (f .first xs (priceOf0 R D) (valid-derived s xs R D (l .valid))
+            (omega (arith, zero-cost, total-priced R D, l .least bs (p .weight) (p .distance) valid-first)));
       }
 
     -- below the cap there is a first tree, and it totals that
-    pub first-tree : leastTotal s < NONE → (bs : List ℕ) × (R : ℕ) × (D : ℕ) × FirstTree bs R D × (totalOf s R D ≡ leastTotal s)
+    pub first-tree : leastTotal s < NONE → (bs : List ℕ) × (R : ℕ) × (D : ℕ) × FirstTree s bs R D × (totalOf s R D ≡ leastTotal s)
     unfolding leastTotal cellOf
     first-tree h =
         let (bs, p, f) = first-exists (lawful s) a NONE (λ g. g .len) (falls s good) (bars s) (only NONE 0) 0 (omega arith) h in

@@ -10,6 +10,7 @@ pub mod Fits
 pub mod Readings
 pub mod Equivalence
 pub mod OneReading
+pub mod LeastTrees
 pub mod Leaves
 pub mod Onsets
 pub mod Depth

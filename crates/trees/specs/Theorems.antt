@@ -1,5 +1,5 @@
--- What holds of the valid trees of every accepted sheet: how many nodes they have, how much they total, and that there is none or a least
--- one. (`Good s` holds of every sheet that a text means: `sheet`'s `GoodLaws.good`. Where their intervals lie is in `Intervals`.)
+-- What holds of the valid trees of every accepted sheet: how many nodes they have, how much they total, and that there is none or a first
+-- of the least. (`Good s` holds of every sheet that a text means: `sheet`'s `GoodLaws.good`. Where their intervals lie is in `Intervals`.)
 use Prim.Native.Nat.{ℕ, _+_, _*_, _≤_, _<_, _^_}
 use mathlib.Core.Path.{_≡_}
 use mathlib.Core.List.{List, [], _∷_}
@@ -21,7 +21,8 @@ use Rattle.trees.specs.Room.{room, room-pays, bars-room, Stretch, stretc
 use Rattle.trees.specs.Room.{treeMost, total-small}
 use Rattle.trees.specs.Laws.{lawful}
 use Rattle.trees.specs.Intervals.{Occurs, bar, part}
-use Rattle.trees.specs.Found.{LeastTree, own-price, first-tree, least-total-below}
+use Rattle.trees.specs.LeastTrees.{FirstTree}
+use Rattle.trees.specs.Found.{own-price, first-tree, least-total-below}
 use Rattle.trees.specs.Equivalence.{valid-derived}
 
 -- the numbers of a valid tree are rule numbers; so they are bytes, a sheet having at most 64 rules (of any sheet)
@@ -72,9 +73,9 @@ module _ (s : Sheet) (good : Good s) where
       let (R, D, p) = own-price s bs v in
       omega (arith, least-total-below s (good .rules) bs R D p, total-below bs R D p)
 
-  -- either no list of any length is valid, or one is least
-  pub none-or-least : ((bs : List ℕ) → ValidTree s bs → ⊥) ⊎ ((bs : List ℕ) × (R : ℕ) × (D : ℕ) × LeastTree s bs R D)
-  none-or-least = elim (decLt (leastTotal s) NONE) [
-    | yes h ↦ let (bs, R, D, f, e) = first-tree s (good .rules) h in inr (bs, R, D, f .tree)
+  -- either no list of any length is valid, or one is the first of the least
+  pub none-or-first : ((bs : List ℕ) → ValidTree s bs → ⊥) ⊎ ((bs : List ℕ) × (R : ℕ) × (D : ℕ) × FirstTree s bs R D)
+  none-or-first = elim (decLt (leastTotal s) NONE) [
+    | yes h ↦ let (bs, R, D, f, e) = first-tree s (good .rules) h in inr (bs, R, D, f)
     | no h ↦ inl (none-valid (omega arith))
   ]

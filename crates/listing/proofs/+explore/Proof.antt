@@ -12,12 +12,12 @@ use Rattle.listing.proofs.explore.Reads as explore
 use Rattle.listing.proofs.explore.Kinds as explore-kinds
 use Rattle.listing.proofs.+explore.Lts-explore as explore-lts
 use Rattle.expansions.proofs.unpacked.Reads as unpacked-reads
-use Rattle.listing.proofs.gone_wrong.Reads as gone-wrong-reads
 use Rattle.listing.proofs.items.is_allowed.Reads as is-allowed-reads
 use Rattle.listing.proofs.items.move_at.Reads as move-at-reads
 use Rattle.listing.proofs.items.next_item.Reads as next-item-reads
 use Rattle.listing.proofs.items.place_behind.Reads as place-behind-reads
-use Rattle.listing.proofs.with_list.Reads as with-list-reads
+use Rattle.listing.proofs.tally.gone_wrong.Reads as gone-wrong-reads
+use Rattle.listing.proofs.tally.with_list.Reads as with-list-reads
 use Rattle.listing.proofs.+explore.{statement}
 use Rattle.listing.proofs.+explore.Tie.{close}
 

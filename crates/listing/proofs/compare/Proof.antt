@@ -29,6 +29,18 @@ list-all-requires c κs = search needs
 print-tally-requires : tie.Need-print-tally-requires
 print-tally-requires c κs = search needs
 
+slice-reshare-prefix-print-tree : tie.Need-slice-reshare-prefix-print-tree
+slice-reshare-prefix-print-tree c = search needs
+
+slice-aggregate-print-tree : tie.Need-slice-aggregate-print-tree
+slice-aggregate-print-tree c =
+    let at-read = c .before .before .before .before .before .before .before in
+    let least = at-read .before .least in
+    sym (length-take-le (least .result) _ (omega (arith, least .ensures)))
+
+print-tree-requires : tie.Need-print-tree-requires
+print-tree-requires c κs = search needs
+
 same-length : tie.Need-same-length
 same-length c = search needs
 
@@ -52,6 +64,9 @@ compare-spec =
     slice-aggregate-list-all
     list-all-requires
     print-tally-requires
+    slice-reshare-prefix-print-tree
+    slice-aggregate-print-tree
+    print-tree-requires
     same-length
     same-length-2
     same-length-3
