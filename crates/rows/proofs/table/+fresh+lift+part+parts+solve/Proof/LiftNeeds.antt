@@ -79,13 +79,14 @@ module _ (t : ℕ) where
 
   pub relax-requires : lift-lts.Need-relax-requires calls (lift-at t) lift.Post
   relax-requires c κs =
-      let start = c .before .before .before .before .before .before .before .before .before .before in
-      let place-of = c .before .before .before .before .before .before .place-of in
-      let held = c .before .before .before .before .held in
-      let if2 = c .before .before .before .if2 in
-      let load = c .before .load in
+      let at-load = c .before in
+      let at-if2 = at-load .before .before in
+      let at-held = at-if2 .before in
+      let at-place-of = at-held .before .before in
+      let start = at-place-of .before .before .before .before in
       let h = start .pre .1 .2 in
-      let row = solve-loaded (lift-solve h (place-of .ensures)) (held .ensures .0 (if2 .taken)) (load .ensures) in
+      let e = lift-solve h (at-place-of .place-of .ensures) in
+      let row = solve-loaded e (at-held .held .ensures .0 (at-if2 .if2 .taken)) (at-load .load .ensures) in
       (omega (arith, h .total-is, h .low (start .args .c)), row-low (h .stands .in-bar .prepared .good) (h .few) row (c .totals .ensures))
 
   pub same-length : lift-lts.Need-same-length calls (lift-at t) lift.Post
@@ -93,15 +94,15 @@ module _ (t : ℕ) where
 
   pub returns-2 : lift-lts.Need-returns-2 calls (lift-at t) lift.Post
   returns-2 c =
-      let place-of = c .before .before .before .before .before .before .before .place-of in
-      let held = c .before .before .before .before .before .held in
-      let if2 = c .before .before .before .before .if2 in
-      let load = c .before .before .load in
-      let totals = c .before .totals in
-      let relax = c .relax in
+      let at-totals = c .before in
+      let at-load = at-totals .before in
+      let at-if2 = at-load .before .before in
+      let at-held = at-if2 .before in
+      let at-place-of = at-held .before .before in
       λ s v h.
-      let row = solve-loaded (lift-solve h (place-of .ensures)) (held .ensures .0 (if2 .taken)) (load .ensures) in
-      lift-more h row (totals .ensures) (relax .ensures)
+      let e = lift-solve h (at-place-of .place-of .ensures) in
+      let row = solve-loaded e (at-held .held .ensures .0 (at-if2 .if2 .taken)) (at-load .load .ensures) in
+      lift-more h row (at-totals .totals .ensures) (c .relax .ensures)
 
   pub fresh-requires : lift-lts.Need-fresh-requires calls (lift-at t) lift.Post
   fresh-requires c κs =
@@ -115,11 +116,11 @@ module _ (t : ℕ) where
 
   pub relax-requires-2 : lift-lts.Need-relax-requires-2 calls (lift-at t) lift.Post
   relax-requires-2 c κs =
-      let start = c .before .before .before .before .before .before .before .before .before .before .before .before in
-      let place-of = c .before .before .before .before .before .before .before .before .place-of in
-      let fresh = c .before .before .before .fresh in
+      let at-fresh = c .before .before .before in
+      let at-place-of = at-fresh .before .before .before .before .before in
+      let start = at-place-of .before .before .before .before in
       let h = start .pre .1 .2 in
-      let row = fresh .ensures _ (lift-solve h (place-of .ensures)) in
+      let row = at-fresh .fresh .ensures _ (lift-solve h (at-place-of .place-of .ensures)) in
       (omega (arith, h .total-is, h .low (start .args .c)), row-low (h .stands .in-bar .prepared .good) (h .few) row (c .totals2 .ensures))
 
   pub same-length-2 : lift-lts.Need-same-length-2 calls (lift-at t) lift.Post
@@ -127,10 +128,8 @@ module _ (t : ℕ) where
 
   pub returns-3 : lift-lts.Need-returns-3 calls (lift-at t) lift.Post
   returns-3 c =
-      let place-of = c .before .before .before .before .before .before .before .before .before .place-of in
-      let fresh = c .before .before .before .before .fresh in
-      let totals2 = c .before .totals2 in
-      let relax2 = c .relax2 in
+      let at-fresh = c .before .before .before .before in
+      let at-place-of = at-fresh .before .before .before .before .before in
       λ s v h.
-      let row = fresh .ensures s (lift-solve h (place-of .ensures)) in
-      lift-more h row (totals2 .ensures) (relax2 .ensures)
+      let row = at-fresh .fresh .ensures s (lift-solve h (at-place-of .place-of .ensures)) in
+      lift-more h row (c .before .totals2 .ensures) (c .relax2 .ensures)

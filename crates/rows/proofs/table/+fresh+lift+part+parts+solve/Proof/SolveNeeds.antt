@@ -97,38 +97,40 @@ module _ (t : ℕ) where
 
   pub parts-requires : solve-lts.Need-parts-requires calls (solve-at t) solve.Post Inv-loop μ-loop
   parts-requires c κs =
-      let start = c .before .before .before .before .before .before .before .before .before .before in
-      let loop = c .before .before .before .before .loop in
-      let split-at = c .before .before .split-at in
-      let if1 = c .before .if1 in
+      let at-if1 = c .before in
+      let at-split-at = at-if1 .before in
+      let at-loop = at-split-at .before .before in
+      let start = at-loop .before .before .before .before .before .before in
       let e = start .pre .1 .1 in
-      let d = split-at .ensures .1 _ (e .entry .stands .in-bar .prepared) (e .entry .stands .length-in) .divides (if1 .taken) in
-      (omega (arith, start .pre .0, parts-shorter e d), (start .pre .1 .0, parts-entry e d (loop .inv _ e .1 .sound)))
+      let t = e .entry .stands in
+      let d = at-split-at .split-at .ensures .1 _ (t .in-bar .prepared) (t .length-in) .divides (at-if1 .if1 .taken) in
+      (omega (arith, start .pre .0, parts-shorter e d), (start .pre .1 .0, parts-entry e d (at-loop .loop .inv _ e .1 .sound)))
 
   pub cost-requires : solve-lts.Need-cost-requires calls (solve-at t) solve.Post Inv-loop μ-loop
   cost-requires c κs =
-      let start = c .before .before .before .before .before .before .before .before .before .before .before .before .before in
-      let last-division = c .before .before .before .before .before .before .before .before .before .before .last-division in
-      let loop-test = c .before .before .before .before .before .before .loop-test in
-      let e = start .pre .1 .1 in
-      (omega (arith, loop-test .taken, last-in e (last-division .ensures) .1), (start .pre .1 .0, e .entry .stands .in-bar .prepared))
+      let at-loop-test = c .before .before .before .before .before .before in
+      let at-last-division = at-loop-test .before .before .before .before in
+      let start = at-last-division .before .before .before in
+      let e = start .pre .1 .1 in (
+        omega (arith, at-loop-test .loop-test .taken, last-in e (at-last-division .last-division .ensures) .1),
+        (start .pre .1 .0, e .entry .stands .in-bar .prepared),
+      )
 
   pub relax-rule-requires : solve-lts.Need-relax-rule-requires calls (solve-at t) solve.Post Inv-loop μ-loop
   relax-rule-requires c κs =
-      let back = c .before .before .before .before .before .before .before .before in
-      let start = back .before .before .before .before .before .before in
-      let last-division = back .before .before .before .last-division in
-      let loop = c .before .before .before .before .before .before .before .before .loop in
-      let loop-test = c .before .before .before .before .before .before .before .loop-test in
-      let split-at = c .before .before .before .before .before .before .split-at in
-      let if1 = c .before .before .before .before .before .if1 in
-      let parts = c .before .before .before .parts in
-      let cost = c .cost in
+      let at-parts = c .before .before .before in
+      let at-if1 = at-parts .before .before in
+      let at-split-at = at-if1 .before in
+      let at-loop-test = at-split-at .before in
+      let at-loop = at-loop-test .before in
+      let at-last-division = at-loop .before .before .before in
+      let start = at-last-division .before .before .before in
       let e = start .pre .1 .1 in
-      let d = split-at .ensures .1 _ (e .entry .stands .in-bar .prepared) (e .entry .stands .length-in) .divides (if1 .taken) in (
-        omega (arith, cost .ensures .0),
-        omega (arith, loop-test .taken, last-in e (last-division .ensures) .1),
-        parted-low (d .rule) (parts .ensures _ (parts-entry e d (loop .inv _ e .1 .sound))),
+      let t = e .entry .stands in
+      let d = at-split-at .split-at .ensures .1 _ (t .in-bar .prepared) (t .length-in) .divides (at-if1 .if1 .taken) in (
+        omega (arith, c .cost .ensures .0),
+        omega (arith, at-loop-test .loop-test .taken, last-in e (at-last-division .last-division .ensures) .1),
+        parted-low (d .rule) (at-parts .parts .ensures _ (parts-entry e d (at-loop .loop .inv _ e .1 .sound))),
       )
 
   pub loop-less : solve-lts.Need-loop-less calls (solve-at t) solve.Post Inv-loop μ-loop
@@ -136,20 +138,20 @@ module _ (t : ℕ) where
 
   pub loop-again : solve-lts.Need-loop-again calls (solve-at t) solve.Post Inv-loop μ-loop
   loop-again c =
-      let back = c .before .before .before .before .before .before .before .before .before in
-      let last-division = back .before .before .before .last-division in
-      let loop = back .loop in
-      let loop-test = c .before .before .before .before .before .before .before .before .loop-test in
-      let split-at = c .before .before .before .before .before .before .before .split-at in
-      let if1 = c .before .before .before .before .before .before .if1 in
-      let parts = c .before .before .before .before .parts in
+      let at-cost = c .before in
+      let at-parts = at-cost .before .before .before in
+      let at-if1 = at-parts .before .before in
+      let at-split-at = at-if1 .before in
+      let at-loop-test = at-split-at .before in
+      let at-loop = at-loop-test .before in
+      let at-last-division = at-loop .before .before .before in
       λ s e.
       let prepared = e .entry .stands .in-bar .prepared in
-      let d = split-at .ensures .1 s prepared (e .entry .stands .length-in) .divides (if1 .taken) in
-      let done = loop .inv s e .1 in (
-        omega (arith, loop-test .taken, last-in e (last-division .ensures) .0),
-        ruled-more s _ _ _ done (prepared .good) d (e .inhabited) (c .before .cost .ensures .1 s prepared)
-            (parts .ensures s (parts-entry e d (done .sound))) (c .relax-rule .ensures),
+      let d = at-split-at .split-at .ensures .1 s prepared (e .entry .stands .length-in) .divides (at-if1 .if1 .taken) in
+      let done = at-loop .loop .inv s e .1 in (
+        omega (arith, at-loop-test .loop-test .taken, last-in e (at-last-division .last-division .ensures) .0),
+        ruled-more s _ _ _ done (prepared .good) d (e .inhabited) (at-cost .cost .ensures .1 s prepared)
+            (at-parts .parts .ensures s (parts-entry e d (done .sound))) (c .relax-rule .ensures),
       )
 
   pub loop-less-2 : solve-lts.Need-loop-less-2 calls (solve-at t) solve.Post Inv-loop μ-loop
@@ -182,17 +184,21 @@ module _ (t : ℕ) where
 
   pub same-length : solve-lts.Need-same-length calls (solve-at t) solve.Post Inv-loop μ-loop
   same-length c =
-      let start = c .before .before .before .before .before .before .before .before .before .before .before in
-      let last-division = c .before .before .before .before .before .before .before .before .last-division in
-      let loop = c .before .before .before .before .before .loop in
-      let loop-test = c .before .before .before .before .loop-test in
+      let at-store = c .before .before in
+      let at-loop-test = at-store .before .before in
+      let at-loop = at-loop-test .before in
+      let at-last-division = at-loop .before .before .before in
+      let start = at-last-division .before .before .before in
       let e = start .pre .1 .1 in
-      let row = rules-end e (last-division .ensures) (loop-test .left) (loop .inv _ e) in
-      solve-stored e row (c .before .before .store .ensures) .sound .size ∙ sym (e .entry .sound .size)
+      let row = rules-end e (at-last-division .last-division .ensures) (at-loop-test .loop-test .left) (at-loop .loop .inv _ e) in
+      solve-stored e row (at-store .store .ensures) .sound .size ∙ sym (e .entry .sound .size)
 
   pub returns : solve-lts.Need-returns calls (solve-at t) solve.Post Inv-loop μ-loop
   returns c =
-      let last-division = c .before .before .before .before .before .before .before .before .last-division in
-      let loop = c .before .before .before .before .before .loop in
-      let loop-test = c .before .before .before .before .loop-test in
-      λ s e. solve-stored e (rules-end e (last-division .ensures) (loop-test .left) (loop .inv s e)) (c .before .before .store .ensures)
+      let at-store = c .before .before in
+      let at-loop-test = at-store .before .before in
+      let at-loop = at-loop-test .before in
+      let at-last-division = at-loop .before .before .before in
+      λ s e.
+      let row = rules-end e (at-last-division .last-division .ensures) (at-loop-test .loop-test .left) (at-loop .loop .inv s e) in
+      solve-stored e row (at-store .store .ensures)
