@@ -1,19 +1,24 @@
 //! Compares the library with the peer on generated input, then times both on
 //! fixed input.
 //!
-//! Arguments, all optional: a part, `reading`, `pricing` or `finding` (all
-//! without it), then a seed and a number of inputs for each part.
+//! Arguments, all optional: a part, `reading`, `pricing`, `finding` or `sliding`
+//! (all without it), then a seed and a number of inputs for each part.
 
+mod facts;
 mod features;
 mod finding;
 mod harness;
 mod library;
+mod listing;
 mod lists;
+mod multipliers;
 mod pricing;
 mod reading;
 mod rules;
 mod search;
 mod sheets;
+mod slides;
+mod sliding;
 mod takes;
 mod trees;
 mod tunes;
@@ -27,16 +32,17 @@ const DEFAULT_SEED: u64 = 20_160;
 /// well, and the number of inputs unless one is given.
 type Part = (&'static str, fn(u64, usize) -> bool, usize);
 
-const PARTS: [Part; 3] = [
+const PARTS: [Part; 4] = [
     ("reading", reading::run, 20_000),
     ("pricing", pricing::run, 20_000),
     ("finding", finding::run, 200_000),
+    ("sliding", sliding::run, 100_000),
 ];
 
 fn main() -> ExitCode {
     let given: Vec<String> = std::env::args().skip(1).collect();
     let Some((parts, seed, count)) = arguments(&given) else {
-        eprintln!("usage: compare [reading | pricing | finding] [SEED [COUNT]]");
+        eprintln!("usage: compare [reading | pricing | finding | sliding] [SEED [COUNT]]");
         return ExitCode::from(2);
     };
     let well = |(_, run, inputs): &Part| run(seed, count.unwrap_or(*inputs));

@@ -84,11 +84,9 @@ fn compare_all(seed: u64, sheets: usize) -> Option<Counts> {
     for at in 1..=sheets {
         let case = takes::case(&mut dice);
         let compared = compare(&mut dice, &mut search, &case, &mut counts);
-        if let Err(Difference(difference)) = compared {
+        if let Err(difference) = compared {
             eprintln!("Sheet {at}, seed {seed}, made as '{}'.", case.made);
-            eprintln!("{difference}");
-            eprintln!("The text, {} bytes:", case.text.len());
-            eprint!("{}", harness::shown(&case.text));
+            difference.print(&case.text);
             return None;
         }
     }
@@ -96,20 +94,31 @@ fn compare_all(seed: u64, sheets: usize) -> Option<Counts> {
 }
 
 /// What a call must give.
-struct Expected {
-    answer: [u64; 6],
-    tree: Vec<u8>,
+pub(crate) struct Expected {
+    pub(crate) answer: [u64; 6],
+    pub(crate) tree: Vec<u8>,
     /// The work cells that must be 0.
     cleared: usize,
 }
 
 impl Expected {
-    fn refusal(number: u8, line: u16) -> Expected {
+    pub(crate) fn refusal(number: u8, line: u16) -> Expected {
         Expected {
             answer: [number.into(), line.into(), 0, 0, 0, 0],
             tree: Vec::new(),
             cleared: 0,
         }
+    }
+
+    /// With slices of the required lengths or longer: the peer's tree, or refusal 11.
+    pub(crate) fn found(search: &mut Search, sheet: &Sheet) -> Result<Expected, Difference> {
+        let mut expected = Expected::refusal(NO_TREE, 0);
+        expected.cleared = peer::work_cells(sheet) as usize;
+        if let Some((tree, price)) = found(search, sheet)? {
+            expected.answer = [0, 0, price.nodes, price.r, price.d, price.total];
+            expected.tree = tree;
+        }
+        Ok(expected)
     }
 }
 
@@ -129,24 +138,21 @@ fn compare(
         Err((number, line)) => {
             let lengths = (dice.pick(&[0, 1, 200]), dice.pick(&[0, 1, 500]));
             let expected = Expected::refusal(number, line);
-            return compare_call(dice, &case.text, lengths, &expected, counts);
+            return compare_call(dice, &case.text, lengths, &expected, &mut counts.outcomes);
         }
     };
     let (bytes, cells) = (peer::tree_bytes(&sheet), peer::work_cells(&sheet));
     let (bytes, cells) = (bytes as usize, cells as usize);
-    let mut expected = Expected::refusal(NO_TREE, 0);
-    expected.cleared = cells;
-    if let Some((tree, price)) = found(search, &sheet)? {
-        let last = last_least(search, &mut sheet, price.total)?;
-        counts.features.add(&sheet, &tree, &last);
-        expected.answer = [0, 0, price.nodes, price.r, price.d, price.total];
-        expected.tree = tree;
+    let expected = Expected::found(search, &sheet)?;
+    if let [0, .., total] = expected.answer {
+        let last = last_least(search, &mut sheet, total)?;
+        counts.features.add(&sheet, &expected.tree, &last);
     }
     let lengths = (longer(dice, bytes), longer(dice, cells));
-    compare_call(dice, &case.text, lengths, &expected, counts)?;
+    compare_call(dice, &case.text, lengths, &expected, &mut counts.outcomes)?;
     for (lengths, number) in short_lengths(dice, bytes, cells) {
         let expected = Expected::refusal(number, 0);
-        compare_call(dice, &case.text, lengths, &expected, counts)?;
+        compare_call(dice, &case.text, lengths, &expected, &mut counts.outcomes)?;
     }
     Ok(())
 }
@@ -208,12 +214,12 @@ fn short_lengths(dice: &mut Dice, bytes: usize, cells: usize) -> Vec<((usize, us
 }
 
 /// Finds in dirty slices of some lengths.
-fn compare_call(
+pub(crate) fn compare_call(
     dice: &mut Dice,
     text: &[u8],
     (bytes, cells): (usize, usize),
     expected: &Expected,
-    counts: &mut Counts,
+    outcomes: &mut Outcomes,
 ) -> Result<(), Difference> {
     let tree_before = dirt(dice, bytes + 2 * AROUND);
     let work_before = dirty_cells(dice, cells + 2 * AROUND);
@@ -229,7 +235,7 @@ fn compare_call(
     work_after[AROUND..][..expected.cleared].fill(0);
     same_slices(&format!("{asked}, tree byte"), &tree, &tree_after)?;
     same_slices(&format!("{asked}, work cell"), &work, &work_after)?;
-    counts.outcomes.add(answer[0])
+    outcomes.add(answer[0])
 }
 
 fn same_slices<T: PartialEq + std::fmt::Debug>(

@@ -16,6 +16,15 @@ const TURN: f64 = 3e6;
 /// What was asked, and the two answers that should have been equal.
 pub struct Difference(pub String);
 
+impl Difference {
+    /// Prints it, and the text that it was found on.
+    pub fn print(&self, text: &[u8]) {
+        eprintln!("{}", self.0);
+        eprintln!("The text, {} bytes:", text.len());
+        eprint!("{}", shown(text));
+    }
+}
+
 pub fn same<T: PartialEq + Debug>(asked: &str, given: T, expected: T) -> Result<(), Difference> {
     if given == expected {
         return Ok(());
@@ -26,7 +35,7 @@ pub fn same<T: PartialEq + Debug>(asked: &str, given: T, expected: T) -> Result<
 }
 
 /// The text with its line ends kept and other unprintable bytes escaped.
-pub fn shown(text: &[u8]) -> String {
+fn shown(text: &[u8]) -> String {
     let lines = text.split_inclusive(|&byte| byte == b'\n');
     lines
         .map(|line| format!("{}\n", line.escape_ascii()))

@@ -7,7 +7,7 @@ use crate::search::Search;
 use crate::sheets::Dice;
 use crate::{takes, trees};
 
-fn found(search: &mut Search, sheet: &Sheet) -> Option<(u64, Vec<u8>)> {
+pub fn found(search: &mut Search, sheet: &Sheet) -> Option<(u64, Vec<u8>)> {
     let total = search.find(sheet)?;
     let mut tree = vec![0; peer::tree_bytes(sheet) as usize];
     let nodes = search.write_tree(&mut tree);

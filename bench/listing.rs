@@ -1,11 +1,15 @@
-//! The first of the least trees by listing all trees of a sheet. Written from
-//! documents 01 and 02 without any table, so that it shares nothing with the
-//! search but the reading of the sheet.
+//! The first of the least trees by listing all trees of a sheet, and R and D of
+//! all. Written from documents 01 and 02 without any table, so that it shares
+//! nothing with the search but the reading of the sheet.
 
 use crate::peer::{Rule, Sheet, BAR_UNITS, REST};
+use std::collections::BTreeSet;
 
 /// An interval still to be parsed under a nonterminal.
 type Item = (u8, u32, u32);
+
+/// R and D of a tree.
+pub type Pair = (u64, u64);
 
 /// The least trees listed.
 pub struct Least {
@@ -23,14 +27,34 @@ struct Listing<'a> {
     sheet: &'a Sheet,
     list: Vec<u8>,
     open: Vec<Item>,
-    least: Option<Least>,
+    /// Takes a valid tree and its R and D.
+    take: &'a mut dyn FnMut(&[u8], Pair),
     /// Rules still to be tried before the listing is given up.
     tries: usize,
 }
 
 /// The least trees, `None` in it if there is no tree; or `None` if there are too
-/// many trees to list.
+/// many trees to list. Only the tests ask for it.
+#[allow(dead_code)]
 pub fn least_trees(sheet: &Sheet, tries: usize) -> Option<Option<Least>> {
+    let mut least = None;
+    let multiplier = u64::from(sheet.multiplier);
+    let take = &mut |list: &[u8], (r, d)| add(&mut least, list, multiplier * r + d);
+    list_all(sheet, tries, take).then_some(least)
+}
+
+/// R and D of all trees, which are the same for every multiplier; or `None` if there
+/// are too many trees to list.
+pub fn pairs(sheet: &Sheet, tries: usize) -> Option<BTreeSet<Pair>> {
+    let mut pairs = BTreeSet::new();
+    let take = &mut |_: &[u8], pair| {
+        pairs.insert(pair);
+    };
+    list_all(sheet, tries, take).then_some(pairs)
+}
+
+/// Hands over all valid trees; gives whether there were few enough.
+fn list_all(sheet: &Sheet, tries: usize, take: &mut dyn FnMut(&[u8], Pair)) -> bool {
     let bars = (0..u32::from(sheet.bars)).rev();
     let mut listing = Listing {
         sheet,
@@ -38,11 +62,33 @@ pub fn least_trees(sheet: &Sheet, tries: usize) -> Option<Option<Least>> {
         open: bars
             .map(|bar| (sheet.start, bar * BAR_UNITS, BAR_UNITS))
             .collect(),
-        least: None,
+        take,
         tries,
     };
     listing.extend(0, 0, 0);
-    (listing.tries > 0).then_some(listing.least)
+    listing.tries > 0
+}
+
+/// Takes a tree among the least, or leaves it.
+fn add(least: &mut Option<Least>, list: &[u8], total: u64) {
+    match least {
+        Some(least) if least.total < total => {}
+        Some(least) if least.total == total => {
+            least.count += 1;
+            least.shortest = least.shortest.min(list.len());
+            if list < least.first.as_slice() {
+                least.first = list.to_vec();
+            }
+        }
+        least => {
+            *least = Some(Least {
+                total,
+                first: list.to_vec(),
+                count: 1,
+                shortest: list.len(),
+            });
+        }
+    }
 }
 
 impl Listing<'_> {
@@ -52,7 +98,7 @@ impl Listing<'_> {
     fn extend(&mut self, carried: usize, r: u64, d: u64) {
         let Some((nonterminal, left, length)) = self.open.pop() else {
             if carried == 0 {
-                self.complete(u64::from(self.sheet.multiplier) * r + d);
+                (self.take)(&self.list, (r, d));
             }
             return;
         };
@@ -80,28 +126,6 @@ impl Listing<'_> {
             self.list.pop();
         }
         self.open.push((nonterminal, left, length));
-    }
-
-    /// Takes a valid tree.
-    fn complete(&mut self, total: u64) {
-        match &mut self.least {
-            Some(least) if least.total < total => {}
-            Some(least) if least.total == total => {
-                least.count += 1;
-                least.shortest = least.shortest.min(self.list.len());
-                if self.list < least.first {
-                    least.first.clone_from(&self.list);
-                }
-            }
-            least => {
-                *least = Some(Least {
-                    total,
-                    first: self.list.clone(),
-                    count: 1,
-                    shortest: self.list.len(),
-                });
-            }
-        }
     }
 
     fn leaf(&mut self, (left, length, n): (u32, u32, u8), carried: usize, r: u64, d: u64) {

@@ -91,25 +91,20 @@ fn compare_all(seed: u64, lists: usize) -> Option<Counts> {
     };
     for at in 1..=lists {
         let case = lists::case(&mut dice);
-        if let Err(Difference(difference)) = compare(&mut dice, &case, &mut counts) {
+        if let Err(difference) = compare(&mut dice, &case, &mut counts) {
             eprintln!("List {at}, seed {seed}, made as '{}'.", case.made);
-            eprintln!("{difference}");
-            print_case(&case);
+            difference.print(&case.text);
+            print_list(&case.list);
             return None;
         }
     }
     Some(counts)
 }
 
-fn print_case(case: &Case) {
-    eprintln!("The text, {} bytes:", case.text.len());
-    eprint!("{}", harness::shown(&case.text));
-    let list = &case.list[..case.list.len().min(LIST_SHOWN)];
-    let digits: String = list.iter().map(|byte| format!("{byte:02X}")).collect();
-    eprintln!(
-        "The list, {} bytes, from its front: {digits}",
-        case.list.len()
-    );
+fn print_list(list: &[u8]) {
+    let front = &list[..list.len().min(LIST_SHOWN)];
+    let digits: String = front.iter().map(|byte| format!("{byte:02X}")).collect();
+    eprintln!("The list, {} bytes, from its front: {digits}", list.len());
 }
 
 fn compare(dice: &mut Dice, case: &Case, counts: &mut Counts) -> Result<(), Difference> {

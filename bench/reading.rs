@@ -39,11 +39,9 @@ fn compare_all(seed: u64, texts: usize) -> Option<Counts> {
     };
     for at in 1..=texts {
         let case = sheets::case(&mut dice);
-        if let Err(Difference(difference)) = compare(&case, &mut counts) {
+        if let Err(difference) = compare(&case, &mut counts) {
             eprintln!("Text {at}, seed {seed}, made as '{}'.", case.made);
-            eprintln!("{difference}");
-            eprintln!("The text, {} bytes:", case.text.len());
-            eprint!("{}", harness::shown(&case.text));
+            difference.print(&case.text);
             return None;
         }
     }

@@ -3,12 +3,16 @@
 // The tests use only some of the files' functions.
 #![allow(dead_code)]
 
+mod facts;
+mod harness;
 mod holding;
 mod listing;
 mod lists;
+mod multipliers;
 mod rules;
 mod search;
 mod sheets;
+mod slide_tests;
 mod takes;
 mod trees;
 

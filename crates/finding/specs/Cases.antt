@@ -1,6 +1,7 @@
--- The seven cases of document 01 ("The sheet S and its neighbours") that finding answers, as document 02 leaves them, with two of rests and
--- three of two least trees each, and what is computed of them: the required lengths, the price of the bytes, that no tree totals less, and
--- that none that totals as much comes before them. `FindingCases.all-answered` and `equals-answered` say what this means of finding.
+-- The seven cases of document 01 ("The sheet S and its neighbours") that finding answers, as document 02 leaves them, with two of rests,
+-- three of two least trees each and two sheets at several multipliers, and what is computed of them: the required lengths, the price of the
+-- bytes, that no tree totals less, and that none that totals as much comes before them. `FindingCases.all-answered` and `equals-answered`
+-- and `SlidingCases.slid-answered` say what this means of finding.
 use Prim.Native.Nat.{ℕ}
 use mathlib.Core.Path.{_≡_, refl}
 use mathlib.Core.Bool.{Bool, true, false, cond, _&&_}
@@ -13,6 +14,7 @@ use Rattle.sheet.specs.Sheet.{Sheet, TimedSheet, inBar}
 use Rattle.sheet.specs.Outcome.{Outcome, refused, accepted}
 use Rattle.sheet.specs.Reading.{readSheet, onSheet}
 use Rattle.sheet.specs.Cases.{grammarS, headS, S}
+use Rattle.sheet.specs.Multiplier.{slid}
 use Rattle.sizes.specs.Sizes.{treeBytes, workCells, lengthCount, mostInBar, largest}
 use Rattle.derivations.specs.Derivation.{Price, onto}
 use Rattle.trees.specs.ValidTrees.{whose, bars, distanceTo, totalOf}
@@ -67,6 +69,26 @@ pub equal-totals : priceText bar-or-halves (1 ∷ 4 ∷ 3 ∷ []) ∷ priceText 
     ≡ priced 3 9 5040 5040 ∷ priced 1 3 0 30 ∷ priced 4 224 3920 6160 ∷ []
 unfolding priceText onSheet readSheet priceSheet onto whose distanceTo Option·elim
 equal-totals = refl
+
+-- document 02, (xiv): S with a rest of the halves and one onset 10 ms before the middle of the bar. In halves, `010403`, R is 9 and D 101, as a
+-- whole-bar note, `00`, R is 1 and D 9,979: the least tree changes between a = 1,234 and a = 1,235.
+abbrev pub near-middle : List ℕ
+near-middle = grammarS ++ textOf "4C01000204\n" ++ headS ++ textOf "4E000F1B303E40\n"
+
+-- a whole-bar note, `01`, which weighs 1, or a half and its continuation, `000203`, which weigh 3, at the same distance
+abbrev pub bar-or-tie : List ℕ
+bar-or-tie = textOf "470200000A\n44000001020101\n4C00000101\n4C01000101\n4C01000100\n" ++ headS ++ textOf "4E000000003C40\n"
+
+-- with a = 0 R does not count, and the first in dictionary order is the heavier; with a = 1 it does
+abbrev pub slid-cases : List Case
+slid-cases =
+    case near-middle 240 81 (priced 3 9 101 191) (1 ∷ 4 ∷ 3 ∷ [])
+    ∷ case (slid 1234 near-middle) 240 81 (priced 3 9 101 11207) (1 ∷ 4 ∷ 3 ∷ [])
+    ∷ case (slid 1235 near-middle) 240 81 (priced 1 1 9979 11214) (0 ∷ [])
+    ∷ case (slid 65535 near-middle) 240 81 (priced 1 1 9979 75514) (0 ∷ [])
+    ∷ case (slid 0 bar-or-tie) 240 81 (priced 3 3 0 0) (0 ∷ 2 ∷ 3 ∷ [])
+    ∷ case (slid 1 bar-or-tie) 240 81 (priced 1 1 0 1) (1 ∷ [])
+    ∷ []
 
 -- nodes, R, D and total, and the tree; or refusal 11 with line 0. The last two open with a rest: half a bar, and a bar
 abbrev pub cases : List Case
@@ -137,6 +159,10 @@ holds c = judged (readSheet (c .text)) c
 pub all-computed : map holds cases ≡ replicate (length cases) true
 unfolding holds onto whose distanceTo Option·elim
 all-computed = refl
+
+pub slid-computed : map holds slid-cases ≡ replicate (length slid-cases) true
+unfolding holds onto whose distanceTo Option·elim slid
+slid-computed = refl
 
 pub equals-computed : map holds equals ≡ replicate (length equals) true
 unfolding holds onto whose distanceTo Option·elim

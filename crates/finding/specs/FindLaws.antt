@@ -27,7 +27,7 @@ use Rattle.finding.specs.Finding.{Search, noTree, found, findSheet, find
 use Rattle.finding.specs.Outcomes.{work-short, tree-short, none-found, one-found}
 use Rattle.finding.specs.FindingLaws.{tree-fits, has-tree, has-none, some-then-zero, zero-then-some, none-then-eleven}
 use Rattle.finding.specs.FindingLaws.{eleven-then-none, short-neither, refused-neither, refused-found, sheet-found}
-use Rattle.finding.specs.FindingLaws.{tree-handed-back}
+use Rattle.finding.specs.FindingLaws.{TreeHandedBack, tree-handed-back}
 
 -- a refusal by reading has a number from 1 to 8
 pub refusal-number : (text : List ℕ) (k n : ℕ) → Refuses text k n → (1 ≤ k) × (k ≤ 8)
@@ -159,6 +159,10 @@ module _ (text : List ℕ) {tree tree′ work work′ : List ℕ} {r : Priced} (
       ]
     ]
 
+    -- and the bytes at the front of the tree slice are that tree
+    pub zero-then-back : r .number ≡ 0 → TreeHandedBack s tree tree′ work work′ r
+    zero-then-back = tree-handed-back s (accepted-good text s a) (subst (λ o. Gives o tree tree′ work work′ r) (sheet-found text _ _ s a) f)
+
     -- "every other valid tree totals no less"
     pub zero-then-least : r .number ≡ 0 → (bs : List ℕ) (R D : ℕ) → trees.Priced s bs R D → r .total ≤ totalOf s R D
     zero-then-least z bs R D p =
@@ -170,8 +174,7 @@ module _ (text : List ℕ) {tree tree′ work work′ : List ℕ} {r : Priced} (
     pub zero-then-first : r .number ≡ 0 → (bs : List ℕ) (R D : ℕ) → trees.Priced s bs R D → totalOf s R D ≡ r .total
         → InDictionaryOrder (take (r .nodes) tree′) bs
     zero-then-first z bs R D p e =
-        let at-sheet = subst (λ o. Gives o tree tree′ work work′ r) (sheet-found text _ _ s a) f in
-        let back = tree-handed-back s (accepted-good text s a) at-sheet z in
+        let back = zero-then-back z in
         back .first .first bs R D
         (record { valid = p; least = λ xs R′ D′ q. omega (arith, e, back .total, back .first .tree .least xs R′ D′ q) })
 

@@ -132,7 +132,7 @@ case-answered c e tree treeAfter work workAfter answer w t f = go (readSheet (c 
           work-is = g .work-so ∙ ap (λ (n : ℕ). over (replicate n 0) work) cells;
         }
 
-each : (cs : List Case) → map holds cs ≡ replicate (length cs) true → Every Answers cs
+pub each : (cs : List Case) → map holds cs ≡ replicate (length cs) true → Every Answers cs
 each [] e = tt
 each (c ∷ cs) e = (case-answered c (head-eq-of-cons-eq e), each cs (tail-eq-of-cons-eq e))
 

@@ -4,8 +4,11 @@ pub mod Outcomes
 pub mod OneAnswer
 pub mod FindingLaws
 pub mod FindLaws
+pub mod Calls
+pub mod SlidingLaws
 pub mod EveryReading
 pub mod Cases
 pub mod CaseLaws
 pub mod FindingCases
+pub mod SlidingCases
 pub mod Refuted

@@ -1,15 +1,21 @@
 -- Wrong answers that the contract of `find` rules out: what each would give, and that the contract is false of it.
-use Prim.Native.Nat.{ℕ, _≤_}
-use mathlib.Core.Path.{_≡_, sym, ap, _∙_}
-use mathlib.Core.List.{List}
+use Prim.Native.Nat.{ℕ, _+_, _≤_, _<_}
+use mathlib.Core.Path.{_≡_, sym, ap, subst, _∙_}
+use mathlib.Core.List.{List, [], _∷_}
 use native.Mathlib.Omega.{arith}
 use lib.ListN.{length}
+use Rattle.sheet.specs.Sheet.{Sheet}
+use Rattle.sheet.specs.Accepted.{Accepts}
 use Rattle.sheet.specs.Cases.{S}
+use Rattle.sheet.specs.Multiplier.{withMultiplier, slid}
 use Rattle.pricing.specs.declared.Priced.{Priced}
 use Rattle.pricing.specs.Pricing.{pricedOf}
 use Rattle.finding.specs.Finding.{findText, numberOf, Finds}
-use Rattle.finding.specs.Cases.{bar-or-halves, longer}
+use Rattle.finding.specs.Cases.{bar-or-halves, longer, bar-or-tie}
 use Rattle.finding.specs.FindingCases.{equals-answered, bar-or-halves-found, S-found, S-nine}
+use Rattle.finding.specs.Calls.{Call, TreeOf}
+use Rattle.finding.specs.SlidingLaws.{undominated, slides}
+use Rattle.finding.specs.SlidingCases.{sheetTie, tie-slid, tie-lighter}
 
 module _ (tree tree′ work work′ : List ℕ) (r : Priced) (f : Finds S tree tree′ work work′ r) where
   -- 11 for every sheet: S has a tree
@@ -36,3 +42,16 @@ module _ (tree tree′ work work′ : List ℕ) (r : Priced) (w : 240 ≤ length
   find-shortest-of-equals f e =
       let g = equals-answered .1 .0 tree tree′ work work′ r w t f in
       let z : _≡_ {A = ℕ} 1 3 = sym e ∙ ap (λ (x : Priced). x .nodes) (g .answer-is) in omega arith
+
+-- a dominated tree: with a = 1 `000203`, which weighs 3, where `01` weighs 1 at the same distance
+find-dominated : (x : Call) → x .text ≡ slid 1 bar-or-tie → x .answer .number ≡ 0 → x .answer .weight ≡ 3 → x .answer .distance ≡ 0 → ⊥
+find-dominated x text z r d =
+    let means = subst (λ (t : List ℕ). Accepts t (withMultiplier 1 sheetTie)) (sym text) (tie-slid 1 (omega arith)) in
+    let same = undominated (withMultiplier 1 sheetTie) x (record { means = means; handed = z }) (omega arith) (1 ∷ []) 1 0 (tie-lighter 1)
+    (omega arith) (omega arith) in
+    omega (arith, same .0)
+
+-- a heavier tree where a has grown by one, of whatever sheet
+find-heavier : (s : Sheet) (a : ℕ) (x y : Call) → TreeOf (withMultiplier a s) x → TreeOf (withMultiplier (a + 1) s) y
+    → x .answer .weight < y .answer .weight → ⊥
+find-heavier s a x y t u h = let f = slides s a (a + 1) x y (omega arith) t u in omega (arith, f .0)

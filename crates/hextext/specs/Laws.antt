@@ -186,7 +186,7 @@ pair-back b h =
     simp (digit-back (b / 16) k, digit-back (b % 16) l) (div-add-mod' b 16)
 
 -- no digit is 0A
-digit-no-close : (n : ℕ) → digitOf n ≡ 10 → ⊥
+pub digit-no-close : (n : ℕ) → digitOf n ≡ 10 → ⊥
 digit-no-close n e = go (decLt n 10)
   where
     go : Dec (n < 10) → ⊥

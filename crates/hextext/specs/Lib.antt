@@ -2,4 +2,5 @@ pub mod Text
 pub mod Written
 pub mod Fields
 pub mod Laws
+pub mod Formed
 pub mod Refuted

@@ -1,13 +1,17 @@
 -- Examples by computation: the sheet S of document 01, its refusal table's rows for 1 to 8, and the order of refusals. One list of texts
 -- with their outcomes, and one theorem.
 use Prim.Native.Nat.{ℕ}
-use mathlib.Core.Path.{_≡_, refl}
+use Prim.Native.String.{String}
+use mathlib.Core.Path.{_≡_, refl, ap}
 use mathlib.Core.List.{List, [], _∷_, _++_, map}
-use lib.ListN.{replicate}
+use native.Mathlib.Omega.{arith}
+use lib.ListN.{replicate, drop, getD}
+use Rattle.hextext.specs.Text.{lines}
 use Rattle.sheet.specs.Literal.{textOf, times}
 use Rattle.sheet.specs.Sheet.{division, leaf, Sheet}
 use Rattle.sheet.specs.Outcome.{refused, accepted}
 use Rattle.sheet.specs.Reading.{readSheet}
+use Rattle.sheet.specs.Multiplier.{AlikeTexts, slid}
 
 -- S in three parts: the grammar (lines 1 to 5), the `45` line (6) and two onsets (7 and 8)
 abbrev pub grammarS : List ℕ
@@ -38,6 +42,27 @@ sheetS =
 pub S-means : readSheet S ≡ accepted (record { sheet = sheetS; timing = record { duration = 2_000_000 } })
 unfolding readSheet
 S-means = refl
+
+-- S with the multiplier 150: its digits `000A` are `0096`, and nothing else changes
+pub S-slid : slid 150 S ≡ textOf "4702000096\n" ++ drop 11 S
+unfolding slid
+S-slid = refl
+
+-- its lines are those of S but for a's field; those of S with another start nonterminal, or another weight, are not
+abbrev withLines : (first second : String) → List ℕ
+withLines first second = textOf first ++ textOf second ++ drop 22 S
+
+pub S-alike : AlikeTexts S (withLines "4702000096\n" "4C00000101\n")
+unfolding lines
+S-alike = refl
+
+pub S-unlike : (AlikeTexts S (withLines "470201000A\n" "4C00000101\n") → ⊥) × (AlikeTexts S (withLines "4702000096\n" "4C00000201\n") → ⊥)
+unfolding lines
+S-unlike = (λ e. differ 2 0 e (omega arith), λ e. differ 3 1 e (omega arith))
+  where
+    -- two lists of lines whose byte i of line n differs
+    differ : (i n : ℕ) {ls ms : List (List ℕ)} → ls ≡ ms → (getD (getD ls n []) i 0 ≡ getD (getD ms n []) i 0 → ⊥) → ⊥
+    differ i n e f = f (ap (λ (xs : List (List ℕ)). getD (getD xs n []) i 0) e)
 
 -- a text and the refusal that it meets
 pub record Case : Type 0 where

@@ -11,6 +11,9 @@ pub mod GoodLaws
 pub mod Bounds
 pub mod Numbers
 pub mod Accepted
+pub mod Multiplier
+pub mod HeadLines
+pub mod MultiplierLaws
 pub mod Demands
 pub mod Buffer
 pub mod Literal

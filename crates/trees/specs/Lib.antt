@@ -20,5 +20,6 @@ pub mod LeafBounds
 pub mod Intervals
 pub mod Nesting
 pub mod Found
+pub mod Sliding
 pub mod Theorems
 pub mod CasesHold
