@@ -1,7 +1,7 @@
--- The three demands, clause by clause, as theorems about the entries: whatever meets an entry's contract has what the clause asks. A reader
--- needs this page and the definitions of `readSheet` (sheet/specs/Reading), `ValidTree`, `KindFits`, `Priced`, `totalOf`
--- (trees/specs/ValidTrees), `RestFits` (trees/specs/Kinds), `InDictionaryOrder`, `LeastTree`, `FirstTree` (trees/specs/LeastTrees),
--- `treeBytes`, `workCells` (sizes/specs/Sizes), `scoreText` (score/specs/Score). x′ is x after the call.
+-- The three demands, clause by clause, and what document 02 adds to them, as theorems about the entries: whatever meets an entry's contract
+-- has what the clause asks. A reader needs this page and the definitions of `readSheet` (sheet/specs/Reading), `ValidTree`, `KindFits`,
+-- `Priced`, `totalOf` (trees/specs/ValidTrees), `RestFits` (trees/specs/Kinds), `InDictionaryOrder`, `LeastTree`, `FirstTree`
+-- (trees/specs/LeastTrees), `treeBytes`, `workCells` (sizes/specs/Sizes), `scoreText` (score/specs/Score). x′ is x after the call.
 -- Contracts: `Reads` (sheet/specs/Held), `Prices` (pricing/specs/Pricing), `Writes` (score/specs/Writing), `Finds` (finding/specs/Finding),
 -- `Reports` (reporting/specs/Reporting). Names:
 --   Refuses text k n, Accepts text s   `readSheet text` is a refusal with number k and line n, or the sheet s
@@ -187,8 +187,8 @@ report-one-answer text tree t₁ t₂ work w₁ w₂ score c₁ c₂ line l₁ l
 
 -- ==== Document 02, (xiv), sliding between plain and close. "They rely on two facts for every accepted sheet"
 
--- "With a of 1 or more, no valid tree has R and D both as small as the tree found and one of them smaller": where both are as small, both are
--- the same. With a = 0 one may be smaller (finding/specs/SlidingCases, `dominated-at-zero`).
+-- "With a of 1 or more, no valid tree has R and D both as small as the tree found and one of them smaller": where both are as small, both
+-- are the same. With a = 0 one may be smaller (finding/specs/SlidingCases, `dominated-at-zero`).
 pub find-undominated : (s : Sheet) (x : Call) → TreeOf s x → 1 ≤ s .grammar .multiplier → (bs : List ℕ) (R D : ℕ) → Priced s bs R D
     → R ≤ x .answer .weight → D ≤ x .answer .distance → (R ≡ x .answer .weight) × (D ≡ x .answer .distance)
 find-undominated = sliding.undominated

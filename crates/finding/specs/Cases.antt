@@ -70,8 +70,8 @@ pub equal-totals : priceText bar-or-halves (1 ∷ 4 ∷ 3 ∷ []) ∷ priceText 
 unfolding priceText onSheet readSheet priceSheet onto whose distanceTo Option·elim
 equal-totals = refl
 
--- document 02, (xiv): S with a rest of the halves and one onset 10 ms before the middle of the bar. In halves, `010403`, R is 9 and D 101, as a
--- whole-bar note, `00`, R is 1 and D 9,979: the least tree changes between a = 1,234 and a = 1,235.
+-- document 02, (xiv): S with a rest of the halves and one onset 10 ms before the middle of the bar. In halves, `010403`, R is 9 and D 101;
+-- as a whole-bar note, `00`, R is 1 and D 9,979: the least tree changes between a = 1,234 and a = 1,235.
 abbrev pub near-middle : List ℕ
 near-middle = grammarS ++ textOf "4C01000204\n" ++ headS ++ textOf "4E000F1B303E40\n"
 

@@ -1,5 +1,5 @@
--- Sliding on examples, as theorems about the contract of `find`: a sheet whose least tree changes between two multipliers, and why 0 is left
--- out of `SlidingLaws.undominated`.
+-- Sliding on examples, as theorems about the contract of `find`: a sheet whose least tree changes between two multipliers, and why 0 is
+-- left out of `SlidingLaws.undominated`.
 use Prim.Native.Nat.{ℕ, _+_, _*_, _≤_}
 use mathlib.Core.Path.{_≡_, refl, sym, ap, subst, _∙_}
 use mathlib.Core.List.{List, [], _∷_}

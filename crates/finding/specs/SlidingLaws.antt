@@ -1,6 +1,6 @@
--- Sliding between plain and close (document 02, (xiv); 000, Pareto points): what editors rely on when they turn the multiplier, from the contract
--- of `find` alone. `Sliding` in `trees` has the facts of least trees, `MultiplierLaws` in `sheet` those of texts that are the same but for
--- a's field.
+-- Sliding between plain and close (document 02, (xiv); 000, Pareto points): what editors rely on when they turn the multiplier, from the
+-- contract of `find` alone. `Sliding` in `trees` has the facts of least trees, `MultiplierLaws` in `sheet` those of texts that are the same
+-- but for a's field.
 use Prim.Native.Nat.{ℕ, _≤_}
 use mathlib.Core.Path.{_≡_, refl, sym, ap, subst, _∙_}
 use mathlib.Core.List.{List}

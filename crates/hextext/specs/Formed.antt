@@ -1,5 +1,5 @@
--- The first line of a text without a bad line is its bytes written as a line (`first-line`), and a line that is written moves the search for
--- a bad line behind it (`line-formed`). Assumes nothing.
+-- The first line of a text without a bad line is its bytes written as a line (`first-line`), and a line that is written moves the search
+-- for a bad line behind it (`line-formed`). Assumes nothing.
 use Prim.Native.Nat.{ℕ, _+_, _*_, _-_, _/_, _%_, _<_, _≤_}
 use mathlib.Core.Path.{_≡_, refl, sym, ap, subst, _∙_}
 use mathlib.Core.Bool.{Bool, true, false, _&&_, _||_, false≢true}
@@ -48,7 +48,12 @@ written-digit n h = go (decLt n 10)
     go (yes l) = rw (digit-of-num n l) (simp (le-leb 48 (n + 48) (omega arith), le-leb (n + 48) 57 (omega arith)))
     go (no l) =
         rw (digit-of-letter n (omega arith))
-        (simp (le-leb 48 (n + 55) (omega arith), lt-leb (n + 55) 57 (omega arith), le-leb 65 (n + 55) (omega arith), le-leb (n + 55) 70 (omega arith)))
+        (simp (
+          le-leb 48 (n + 55) (omega arith),
+          lt-leb (n + 55) 57 (omega arith),
+          le-leb 65 (n + 55) (omega arith),
+          le-leb (n + 55) 70 (omega arith),
+        ))
 
 -- the digits of a pair
 pair-high : (a b : ℕ) → pair a b / 16 ≡ value a

@@ -1,5 +1,5 @@
--- Sliding the multiplier (document 02, (xiv), "For two sheets alike except that a grows"): a sheet with another a, and texts that are the same
--- but for a's field. Two such texts that are accepted mean sheets that are the same but for a (`MultiplierLaws.texts-alike`).
+-- Sliding the multiplier (document 02, (xiv), "For two sheets alike except that a grows"): a sheet with another a, and texts that are the
+-- same but for a's field. Two such texts that are accepted mean sheets that are the same but for a (`MultiplierLaws.texts-alike`).
 use Prim.Native.Nat.{ℕ, _/_, _%_}
 use mathlib.Core.Path.{_≡_}
 use mathlib.Core.List.{List, [], _∷_, _++_}

@@ -1,5 +1,5 @@
--- Texts that are the same but for a's field: two that are accepted mean sheets that are the same but for a (`texts-alike`), and every accepted
--- text has such a text for each a (`slid-accepted`). Assumes nothing.
+-- Texts that are the same but for a's field: two that are accepted mean sheets that are the same but for a (`texts-alike`), and every
+-- accepted text has such a text for each a (`slid-accepted`). Assumes nothing.
 use Prim.Native.Nat.{ℕ, zero, suc, _+_, _*_, _/_, _%_, _<_, _≤_}
 use mathlib.Core.Path.{_≡_, refl, sym, ap, ap₂, subst, _∙_}
 use mathlib.Core.List.{List, [], _∷_, _++_, head-eq-of-cons-eq, tail-eq-of-cons-eq}

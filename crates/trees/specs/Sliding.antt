@@ -1,7 +1,7 @@
--- Sliding between plain and close (document 02, (xiv); 000, Pareto points): what the multiplier does to the least trees of a sheet. Which lists
--- are valid trees, and their R and D, do not depend on it. So no valid tree is better in one of R and D and no worse in the other than a
--- least one (`none-dominates`), and R does not rise and D does not fall as a grows (`slides`); first trees with one R and one D are one list
--- (`same-tree`), so what two multipliers share every multiplier between them has (`skips`).
+-- Sliding between plain and close (document 02, (xiv); 000, Pareto points): what the multiplier does to the least trees of a sheet. Which
+-- lists are valid trees, and their R and D, do not depend on it. So R does not rise and D does not fall as a grows (`slides`); and first
+-- trees with one R and one D are one list (`same-tree`), so what two multipliers share every multiplier between them has (`skips`). Of one
+-- sheet, no valid tree is better than a least one in one of R and D and no worse in the other (`none-dominates`).
 use Prim.Native.Nat.{ℕ, _+_, _-_, _*_, _≤_, _<_}
 use mathlib.Core.Path.{_≡_, refl, sym, ap, subst, _∙_}
 use mathlib.Core.List.{List}
