@@ -50,7 +50,8 @@ void rhythm_write(const uint8_t *text, size_t text_length, const uint8_t *list, 
 
    0: the first `node count` bytes of the tree slice are a valid tree, the figures are its own, and no valid tree of the sheet totals less.
    Bytes behind them are kept. Of several trees with that total it is the first in dictionary order: where two first differ, the one with
-   the lower rule number. So one call has one answer, whatever build gives it.
+   the lower rule number. So one call has one answer, whatever build gives it. Of texts that differ in the digits of the multiplier alone
+   all have a tree or none has; as it grows R does not rise and D does not fall (find-slides-by-text in docs/PROOF.md).
    9, 10: the work slice, the tree slice is shorter than required. 11: no list of bytes, of any length, is a valid tree.
    After 0 and 11 the required cells at the front of the work slice are 0; what they hold before the call does not matter. Cells behind them
    are kept. */

@@ -76,7 +76,8 @@ module _ (text : List ℕ) (k n : ℕ) (faulty : Refuses text k n) where
   find-refused tree tree′ work work′ r h = find.text-refused text h k n faulty
 
   pub report-refused : (tree tree′ work work′ score score′ line line′ : List ℕ) (r : Shown)
-      → Reports text tree tree′ work work′ score score′ line line′ r → LineOnly k n tree tree′ score score′ line′ r × (work′ ≡ work)
+      → Reports text tree tree′ work work′ score score′ line line′ r
+      → LineOnly k n tree tree′ score score′ line′ r × (work′ ≡ work)
   report-refused tree tree′ work work′ score score′ line line′ r h = report.text-refused text h k n faulty
 
 -- "a short slice or a list that is no tree is refused with the paper's number, no result besides, tree and score slices untouched. Apart
@@ -105,7 +106,8 @@ module _ (text : List ℕ) (s : Sheet) (a : Accepts text s) where
 
   pub find-answers : (tree tree′ work work′ : List ℕ) (r : answer.Priced) → Finds text tree tree′ work work′ r
       → ((length work < workCells s) × (r ≡ refusedAs 9 0) × (tree′ ≡ tree) × (work′ ≡ work))
-      ⊎ ((workCells s ≤ length work) × (length tree < treeBytes s) × (r ≡ refusedAs 10 0) × (tree′ ≡ tree) × (work′ ≡ work))
+      ⊎ ((workCells s ≤ length work) × (length tree < treeBytes s)
+      × (r ≡ refusedAs 10 0) × (tree′ ≡ tree) × (work′ ≡ work))
       ⊎ ((workCells s ≤ length work) × (treeBytes s ≤ length tree) × ((bs : List ℕ) → ValidTree s bs → ⊥)
       × (r ≡ refusedAs 11 0) × (tree′ ≡ tree) × (work′ ≡ cleared s work))
       ⊎ ((workCells s ≤ length work) × (treeBytes s ≤ length tree) × find.FoundAs s tree tree′ r × (work′ ≡ cleared s work))
@@ -114,10 +116,12 @@ module _ (text : List ℕ) (s : Sheet) (a : Accepts text s) where
   pub report-answers : (tree tree′ work work′ score score′ line line′ : List ℕ) (r : Shown)
       → Reports text tree tree′ work work′ score score′ line line′ r
       → ((length work < workCells s) × LineOnly 9 0 tree tree′ score score′ line′ r × (work′ ≡ work))
-      ⊎ ((workCells s ≤ length work) × (length tree < treeBytes s) × LineOnly 10 0 tree tree′ score score′ line′ r × (work′ ≡ work))
+      ⊎ ((workCells s ≤ length work) × (length tree < treeBytes s)
+      × LineOnly 10 0 tree tree′ score score′ line′ r × (work′ ≡ work))
       ⊎ ((workCells s ≤ length work) × (treeBytes s ≤ length tree) × ((bs : List ℕ) → ValidTree s bs → ⊥)
       × LineOnly 11 0 tree tree′ score score′ line′ r × (work′ ≡ cleared s work))
-      ⊎ ((workCells s ≤ length work) × (treeBytes s ≤ length tree) × Scored s tree tree′ score score′ line′ r × (work′ ≡ cleared s work))
+      ⊎ ((workCells s ≤ length work) × (treeBytes s ≤ length tree)
+      × Scored s tree tree′ score score′ line′ r × (work′ ≡ cleared s work))
   report-answers tree tree′ work work′ score score′ line line′ r h = report.report-answers text h s a
 
   -- ==== Demand 2. "Rule weight, distance, token kinds and score lines are those of the published definitions as document 01 fixes them"
@@ -164,18 +168,20 @@ module _ (text : List ℕ) (s : Sheet) (a : Accepts text s) where
     find-complete = find.zero-exactly text h s a
 
     -- "and 11 comes exactly when no list of any length is."
-    pub find-none : workCells s ≤ length work → treeBytes s ≤ length tree → (r .number ≡ 11) ↔ ((bs : List ℕ) → ValidTree s bs → ⊥)
+    pub find-none : workCells s ≤ length work → treeBytes s ≤ length tree
+        → (r .number ≡ 11) ↔ ((bs : List ℕ) → ValidTree s bs → ⊥)
     find-none = find.eleven-exactly text h s a
 
 -- "With a shorter slice, or a text that is no accepted sheet, neither answer"
 pub find-neither : (text tree tree′ work work′ : List ℕ) (r : answer.Priced) → Finds text tree tree′ work work′ r
-    → ((s : Sheet) × Accepts text s × ((length work < workCells s) ⊎ (length tree < treeBytes s))) ⊎ ((s : Sheet) → Accepts text s → ⊥)
+    → ((s : Sheet) × Accepts text s × ((length work < workCells s) ⊎ (length tree < treeBytes s)))
+    ⊎ ((s : Sheet) → Accepts text s → ⊥)
     → (r .number ≡ 0 → ⊥) × (r .number ≡ 11 → ⊥)
 find-neither text tree tree′ work work′ r h = find.neither text h
 
 -- Document 02, (iii). "Two builds could print one take as two pages with one total": two answers to one call are the same, and so is what
--- they leave in every slice, of every text and all slices. t₁, w₁, c₁, l₁ are the tree, work, score and line slice after the one, and t₂,
--- w₂, c₂, l₂ after the other.
+-- they leave in every slice, of every text and all slices. t₁, w₁, c₁, l₁ are the tree, work, score and line slice after the one,
+-- and t₂, w₂, c₂, l₂ after the other.
 pub find-one-answer : (text tree t₁ t₂ work w₁ w₂ : List ℕ) (r₁ r₂ : answer.Priced) → Finds text tree t₁ work w₁ r₁
     → Finds text tree t₂ work w₂ r₂ → (r₁ ≡ r₂) × (t₁ ≡ t₂) × (w₁ ≡ w₂)
 find-one-answer text tree t₁ t₂ work w₁ w₂ r₁ r₂ = finding.one-answer text tree work
@@ -183,13 +189,15 @@ find-one-answer text tree t₁ t₂ work w₁ w₂ r₁ r₂ = finding.one-answe
 pub report-one-answer : (text tree t₁ t₂ work w₁ w₂ score c₁ c₂ line l₁ l₂ : List ℕ) (r₁ r₂ : Shown)
     → Reports text tree t₁ work w₁ score c₁ line l₁ r₁ → Reports text tree t₂ work w₂ score c₂ line l₂ r₂
     → (r₁ ≡ r₂) × (t₁ ≡ t₂) × (w₁ ≡ w₂) × (c₁ ≡ c₂) × (l₁ ≡ l₂)
-report-one-answer text tree t₁ t₂ work w₁ w₂ score c₁ c₂ line l₁ l₂ r₁ r₂ = reporting.one-answer text tree work score line
+report-one-answer text tree t₁ t₂ work w₁ w₂ score c₁ c₂ line l₁ l₂ r₁ r₂ =
+    reporting.one-answer text tree work score line
 
 -- ==== Document 02, (xiv), sliding between plain and close. "They rely on two facts for every accepted sheet"
 
 -- "With a of 1 or more, no valid tree has R and D both as small as the tree found and one of them smaller": where both are as small, both
 -- are the same. With a = 0 one may be smaller (finding/specs/SlidingCases, `dominated-at-zero`).
-pub find-undominated : (s : Sheet) (x : Call) → TreeOf s x → 1 ≤ s .grammar .multiplier → (bs : List ℕ) (R D : ℕ) → Priced s bs R D
+pub find-undominated : (s : Sheet) (x : Call) → TreeOf s x → 1 ≤ s .grammar .multiplier
+    → (bs : List ℕ) (R D : ℕ) → Priced s bs R D
     → R ≤ x .answer .weight → D ≤ x .answer .distance → (R ≡ x .answer .weight) × (D ≡ x .answer .distance)
 find-undominated = sliding.undominated
 
@@ -199,8 +207,9 @@ pub find-slides : (s : Sheet) (a b : ℕ) (x y : Call) → a ≤ b → TreeOf (w
 find-slides = sliding.slides
 
 -- and of texts that are the same but for a's field, which mean sheets that are the same but for a; every accepted text has one for each a
-pub find-slides-by-text : (s s′ : Sheet) (x y : Call) → AlikeTexts (x .text) (y .text) → s .grammar .multiplier ≤ s′ .grammar .multiplier
-    → TreeOf s x → TreeOf s′ y → (y .answer .weight ≤ x .answer .weight) × (x .answer .distance ≤ y .answer .distance)
+pub find-slides-by-text : (s s′ : Sheet) (x y : Call) → AlikeTexts (x .text) (y .text)
+    → s .grammar .multiplier ≤ s′ .grammar .multiplier → TreeOf s x → TreeOf s′ y
+    → (y .answer .weight ≤ x .answer .weight) × (x .answer .distance ≤ y .answer .distance)
 find-slides-by-text = sliding.slides-by-text
 
 pub read-alike : (t u : List ℕ) (s s′ : Sheet) → Accepts t s → Accepts u s′ → AlikeTexts t u
@@ -224,8 +233,9 @@ pub find-both-or-neither-by-text : (s s′ : Sheet) (x y : Call) → AlikeTexts 
 find-both-or-neither-by-text = sliding.both-or-neither-by-text
 
 -- Beyond the request: where two multipliers give the same R and D, each between them gives these too, and the same tree.
-pub find-skipped : (s : Sheet) (a b c : ℕ) (x y z : Call) → a ≤ b → b ≤ c → TreeOf (withMultiplier a s) x → TreeOf (withMultiplier b s) y
-    → TreeOf (withMultiplier c s) z → x .answer .weight ≡ z .answer .weight → x .answer .distance ≡ z .answer .distance
-    → (y .answer .weight ≡ x .answer .weight) × (y .answer .distance ≡ x .answer .distance) × (y .answer .nodes ≡ x .answer .nodes)
-    × (foundBytes y ≡ foundBytes x)
+pub find-skipped : (s : Sheet) (a b c : ℕ) (x y z : Call) → a ≤ b → b ≤ c
+    → TreeOf (withMultiplier a s) x → TreeOf (withMultiplier b s) y → TreeOf (withMultiplier c s) z
+    → x .answer .weight ≡ z .answer .weight → x .answer .distance ≡ z .answer .distance
+    → (y .answer .weight ≡ x .answer .weight) × (y .answer .distance ≡ x .answer .distance)
+    × (y .answer .nodes ≡ x .answer .nodes) × (foundBytes y ≡ foundBytes x)
 find-skipped = sliding.skipped

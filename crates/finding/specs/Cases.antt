@@ -65,7 +65,8 @@ equals =
     ∷ case over-bar-line 480 162 (priced 2 0 6160 6160) (0 ∷ 0 ∷ [])
     ∷ []
 
-pub equal-totals : priceText bar-or-halves (1 ∷ 4 ∷ 3 ∷ []) ∷ priceText longer (1 ∷ []) ∷ priceText over-bar-line (2 ∷ 3 ∷ 3 ∷ 1 ∷ []) ∷ []
+pub equal-totals : priceText bar-or-halves (1 ∷ 4 ∷ 3 ∷ []) ∷ priceText longer (1 ∷ [])
+    ∷ priceText over-bar-line (2 ∷ 3 ∷ 3 ∷ 1 ∷ []) ∷ []
     ≡ priced 3 9 5040 5040 ∷ priced 1 3 0 30 ∷ priced 4 224 3920 6160 ∷ []
 unfolding priceText onSheet readSheet priceSheet onto whose distanceTo Option·elim
 equal-totals = refl

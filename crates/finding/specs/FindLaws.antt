@@ -1,7 +1,7 @@
 -- What `find` gives of a text that is refused or means a sheet, whole, from `Finds` alone: each number under its condition, the tree slice
 -- kept by every refusal, and with number 0 the tree, its figures and the bytes behind it. `FindingLaws` has demand 3 by the number.
 use Prim.Native.Nat.{ℕ, _≤_, _<_}
-use mathlib.Core.Path.{_≡_, refl, ap, subst, _∙_}
+use mathlib.Core.Path.{_≡_, ap, subst, _∙_}
 use mathlib.Core.List.{List, _++_}
 use mathlib.Core.Logic.{_⊎_, inl, inr, _↔_}
 use native.Mathlib.Decide.{decLt}
@@ -134,7 +134,8 @@ module _ (text : List ℕ) {tree tree′ work work′ : List ℕ} {r : Priced} (
 
     -- "Apart from these and a sheet that has no tree, nothing is refused": each answer under its condition
     pub find-answers : ((length work < workCells s) × (r ≡ refusedAs 9 0) × (tree′ ≡ tree) × (work′ ≡ work))
-        ⊎ ((workCells s ≤ length work) × (length tree < treeBytes s) × (r ≡ refusedAs 10 0) × (tree′ ≡ tree) × (work′ ≡ work))
+        ⊎ ((workCells s ≤ length work) × (length tree < treeBytes s)
+        × (r ≡ refusedAs 10 0) × (tree′ ≡ tree) × (work′ ≡ work))
         ⊎ ((workCells s ≤ length work) × (treeBytes s ≤ length tree) × ((bs : List ℕ) → ValidTree s bs → ⊥)
         × (r ≡ refusedAs 11 0) × (tree′ ≡ tree) × (work′ ≡ cleared s work))
         ⊎ ((workCells s ≤ length work) × (treeBytes s ≤ length tree) × FoundAs s tree tree′ r × (work′ ≡ cleared s work))
@@ -161,7 +162,9 @@ module _ (text : List ℕ) {tree tree′ work work′ : List ℕ} {r : Priced} (
 
     -- and the bytes at the front of the tree slice are that tree
     pub zero-then-back : r .number ≡ 0 → TreeHandedBack s tree tree′ work work′ r
-    zero-then-back = tree-handed-back s (accepted-good text s a) (subst (λ o. Gives o tree tree′ work work′ r) (sheet-found text _ _ s a) f)
+    zero-then-back =
+        let at-sheet = subst (λ o. Gives o tree tree′ work work′ r) (sheet-found text _ _ s a) f in
+        tree-handed-back s (accepted-good text s a) at-sheet
 
     -- "every other valid tree totals no less"
     pub zero-then-least : r .number ≡ 0 → (bs : List ℕ) (R D : ℕ) → trees.Priced s bs R D → r .total ≤ totalOf s R D

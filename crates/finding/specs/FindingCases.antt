@@ -71,7 +71,8 @@ is-found s bs n R D t all e {tree} {treeAfter} {work} {workAfter} {answer} g c =
     go (one-first-tree s (g .bytes) bs (g .weight) (g .distance) R D (g .first) (first-computed s bs n R D t all e))
     (price-own s bs n R D t e)
   where
-    go : (g .bytes ≡ bs) × (g .weight ≡ R) × (g .distance ≡ D) → trees.Priced s bs R D × (n ≡ length bs) × (t ≡ totalOf s R D)
+    go : (g .bytes ≡ bs) × (g .weight ≡ R) × (g .distance ≡ D)
+        → trees.Priced s bs R D × (n ≡ length bs) × (t ≡ totalOf s R D)
         → AnsweredSheet s (priced n R D t) bs tree treeAfter work workAfter answer
     go (eb, er, ed) (p, en, et) =
         record {
@@ -147,7 +148,8 @@ equals-answered = each equals equals-computed
 -- S: number 0, line 0, three nodes, R 8, D 1,008, total 1,088, and `010303` at the front of the tree slice
 pub S-found : (tree treeAfter work workAfter : List ℕ) (answer : Priced) → 464 ≤ length work → 161 ≤ length tree
     → Finds S tree treeAfter work workAfter answer
-    → (answer ≡ record { number = 0; line = 0; nodes = 3; weight = 8; distance = 1008; total = 1088 }) × (take 3 treeAfter ≡ 1 ∷ 3 ∷ 3 ∷ [])
+    → (answer ≡ record { number = 0; line = 0; nodes = 3; weight = 8; distance = 1008; total = 1088 })
+    × (take 3 treeAfter ≡ 1 ∷ 3 ∷ 3 ∷ [])
 unfolding pricedOf
 S-found tree treeAfter work workAfter answer w t f =
     let g = all-answered .0 tree treeAfter work workAfter answer w t f in
@@ -156,7 +158,8 @@ S-found tree treeAfter work workAfter answer w t f =
 -- document 02, (iii): "`00` and `010403` both total 5,040, and `00` is given"
 pub bar-or-halves-found : (tree treeAfter work workAfter : List ℕ) (answer : Priced) → 240 ≤ length work → 81 ≤ length tree
     → Finds bar-or-halves tree treeAfter work workAfter answer
-    → (answer ≡ record { number = 0; line = 0; nodes = 1; weight = 1; distance = 5040; total = 5040 }) × (take 1 treeAfter ≡ 0 ∷ [])
+    → (answer ≡ record { number = 0; line = 0; nodes = 1; weight = 1; distance = 5040; total = 5040 })
+    × (take 1 treeAfter ≡ 0 ∷ [])
 unfolding pricedOf
 bar-or-halves-found tree treeAfter work workAfter answer w t f =
     let g = equals-answered .0 tree treeAfter work workAfter answer w t f in

@@ -34,7 +34,9 @@ module _ (tree tree′ work work′ : List ℕ) (r : Priced) (w : 240 ≤ length
   -- the last of equals: `010403`, which totals 5,040 as `00` does
   find-last-of-equals : Finds bar-or-halves tree tree′ work work′ r → r .nodes ≡ 3 → ⊥
   find-last-of-equals f e =
-      let z : _≡_ {A = ℕ} 3 1 = sym e ∙ ap (λ (x : Priced). x .nodes) (bar-or-halves-found tree tree′ work work′ r w t f .0) in omega arith
+      let g = bar-or-halves-found tree tree′ work work′ r w t f .0 in
+      let z : _≡_ {A = ℕ} 3 1 = sym e ∙ ap (λ (x : Priced). x .nodes) g in
+      omega arith
 
   -- the shortest of equals: `01`, which totals 30 as `000203` does
   find-shortest-of-equals : Finds longer tree tree′ work work′ r → r .nodes ≡ 1 → ⊥
@@ -44,7 +46,8 @@ module _ (tree tree′ work work′ : List ℕ) (r : Priced) (w : 240 ≤ length
       let z : _≡_ {A = ℕ} 1 3 = sym e ∙ ap (λ (x : Priced). x .nodes) (g .answer-is) in omega arith
 
 -- a dominated tree: with a = 1 `000203`, which weighs 3, where `01` weighs 1 at the same distance
-find-dominated : (x : Call) → x .text ≡ slid 1 bar-or-tie → x .answer .number ≡ 0 → x .answer .weight ≡ 3 → x .answer .distance ≡ 0 → ⊥
+find-dominated : (x : Call) → x .text ≡ slid 1 bar-or-tie → x .answer .number ≡ 0
+    → x .answer .weight ≡ 3 → x .answer .distance ≡ 0 → ⊥
 find-dominated x text z r d =
     let means = subst (λ (t : List ℕ). Accepts t (withMultiplier 1 sheetTie)) (sym text) (tie-slid 1 (omega arith)) in
     let same = undominated (withMultiplier 1 sheetTie) x (record { means = means; handed = z }) (omega arith) (1 ∷ []) 1 0 (tie-lighter 1)

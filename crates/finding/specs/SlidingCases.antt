@@ -1,14 +1,13 @@
 -- Sliding on examples, as theorems about the contract of `find`: a sheet whose least tree changes between two multipliers, and why 0 is
 -- left out of `SlidingLaws.undominated`.
 use Prim.Native.Nat.{ℕ, _+_, _*_, _≤_}
-use mathlib.Core.Path.{_≡_, refl, sym, ap, subst, _∙_}
+use mathlib.Core.Path.{_≡_, refl, ap}
 use mathlib.Core.List.{List, [], _∷_}
 use mathlib.Core.Option.{Option·elim}
 use native.Mathlib.Omega.{arith}
 use lib.ListN.{length}
 use Rattle.slices.specs.Every.{Every}
 use Rattle.sheet.specs.Sheet.{division, leaf, Sheet}
-use Rattle.sheet.specs.Outcome.{accepted}
 use Rattle.sheet.specs.Reading.{readSheet}
 use Rattle.sheet.specs.Accepted.{Accepts}
 use Rattle.sheet.specs.Multiplier.{withMultiplier, slid}
@@ -17,7 +16,7 @@ use Rattle.derivations.specs.Derivation.{onto}
 use Rattle.trees.specs.ValidTrees as trees
 use Rattle.trees.specs.ValidTrees.{whose, distanceTo}
 use Rattle.pricing.specs.declared.Priced.{Priced}
-use Rattle.pricing.specs.Pricing.{priced, priceSheet, pricedOf}
+use Rattle.pricing.specs.Pricing.{priceSheet, pricedOf}
 use Rattle.pricing.specs.PricingLaws.{price-own}
 use Rattle.finding.specs.Finding.{Finds}
 use Rattle.finding.specs.Cases.{bar-or-tie, slid-cases, slid-computed}

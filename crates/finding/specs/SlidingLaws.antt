@@ -2,11 +2,11 @@
 -- contract of `find` alone. `Sliding` in `trees` has the facts of least trees, `MultiplierLaws` in `sheet` those of texts that are the same
 -- but for a's field.
 use Prim.Native.Nat.{ℕ, _≤_}
-use mathlib.Core.Path.{_≡_, refl, sym, ap, subst, _∙_}
+use mathlib.Core.Path.{_≡_, sym, ap, subst, _∙_}
 use mathlib.Core.List.{List}
 use mathlib.Core.Logic.{_↔_}
 use native.Mathlib.Omega.{arith}
-use lib.ListN.{length, take, length-take}
+use lib.ListN.{length, length-take}
 use Rattle.sheet.specs.Sheet.{Sheet}
 use Rattle.sheet.specs.Accepted.{Accepts}
 use Rattle.sheet.specs.Multiplier.{withMultiplier, AlikeTexts}
@@ -32,7 +32,8 @@ found-length s x t = omega (arith, length-take (x .answer .nodes) (x .tree′), 
 
 -- "With a of 1 or more, no valid tree has R and D both as small as the tree found and one of them smaller": where both are as small, both
 -- are the same
-pub undominated : (s : Sheet) (x : Call) → TreeOf s x → 1 ≤ s .grammar .multiplier → (bs : List ℕ) (R D : ℕ) → trees.Priced s bs R D
+pub undominated : (s : Sheet) (x : Call) → TreeOf s x → 1 ≤ s .grammar .multiplier
+    → (bs : List ℕ) (R D : ℕ) → trees.Priced s bs R D
     → R ≤ x .answer .weight → D ≤ x .answer .distance → (R ≡ x .answer .weight) × (D ≡ x .answer .distance)
 undominated s x t one bs R D =
     none-dominates s (foundBytes x) bs (x .answer .weight) (x .answer .distance) R D one (found-first s x t .tree)
@@ -69,8 +70,8 @@ module _ (s : Sheet) where
   -- editor who slides may skip what lies between.
   pub skipped : (a b c : ℕ) (x y z : Call) → a ≤ b → b ≤ c → TreeOf (withMultiplier a s) x → TreeOf (withMultiplier b s) y
       → TreeOf (withMultiplier c s) z → x .answer .weight ≡ z .answer .weight → x .answer .distance ≡ z .answer .distance
-      → (y .answer .weight ≡ x .answer .weight) × (y .answer .distance ≡ x .answer .distance) × (y .answer .nodes ≡ x .answer .nodes)
-      × (foundBytes y ≡ foundBytes x)
+      → (y .answer .weight ≡ x .answer .weight) × (y .answer .distance ≡ x .answer .distance)
+      × (y .answer .nodes ≡ x .answer .nodes) × (foundBytes y ≡ foundBytes x)
   skipped a b c x y z h k t u v r d =
       let (e, p, q) = skips s a b c (foundBytes x) (foundBytes y) (foundBytes z) (x .answer .weight) (x .answer .distance)
       (y .answer .weight) (y .answer .distance) h k (found-first (withMultiplier a s) x t) (found-first (withMultiplier b s) y u) last in
@@ -87,13 +88,15 @@ pub alike-means : (t u : List ℕ) (s s′ : Sheet) → Accepts t s → Accepts 
 alike-means t u s s′ p q alike = subst (Accepts u) (texts-alike t u s s′ p q alike) q
 
 -- so what holds of sheets holds of texts
-pub slides-by-text : (s s′ : Sheet) (x y : Call) → AlikeTexts (x .text) (y .text) → s .grammar .multiplier ≤ s′ .grammar .multiplier
-    → TreeOf s x → TreeOf s′ y → (y .answer .weight ≤ x .answer .weight) × (x .answer .distance ≤ y .answer .distance)
+pub slides-by-text : (s s′ : Sheet) (x y : Call) → AlikeTexts (x .text) (y .text)
+    → s .grammar .multiplier ≤ s′ .grammar .multiplier → TreeOf s x → TreeOf s′ y
+    → (y .answer .weight ≤ x .answer .weight) × (x .answer .distance ≤ y .answer .distance)
 slides-by-text s s′ x y alike h t u =
     slides s (s .grammar .multiplier) (s′ .grammar .multiplier) x y h t
     (record { means = alike-means (x .text) (y .text) s s′ (t .means) (u .means) alike; handed = u .handed })
 
-pub both-or-neither-by-text : (s s′ : Sheet) (x y : Call) → AlikeTexts (x .text) (y .text) → Accepts (x .text) s → Accepts (y .text) s′
-    → RoomFor s x → RoomFor s y → (x .answer .number ≡ 0) ↔ (y .answer .number ≡ 0)
+pub both-or-neither-by-text : (s s′ : Sheet) (x y : Call) → AlikeTexts (x .text) (y .text)
+    → Accepts (x .text) s → Accepts (y .text) s′ → RoomFor s x → RoomFor s y
+    → (x .answer .number ≡ 0) ↔ (y .answer .number ≡ 0)
 both-or-neither-by-text s s′ x y alike p q =
     both-or-neither s (s .grammar .multiplier) (s′ .grammar .multiplier) x y p (alike-means (x .text) (y .text) s s′ p q alike)

@@ -11,7 +11,7 @@ use lib.Seq.{take-suc, take-all, length-take-le}
 use borrow.Author.Tests.{le-leb, lt-leb}
 use Rattle.slices.specs.Over.{overFrom, over-from-nil, over-from-more}
 use Rattle.hextext.specs.Written.{digitOf, pairsOf, lineText, hasRoom, LineWritten}
-use Rattle.hextext.specs.Laws.{pairs-append, length-pairs, length-line}
+use Rattle.hextext.specs.WrittenLaws.{pairs-append, length-pairs, length-line}
 
 -- the pairs of the first i bytes stand in the slice from place `at` on, in front of place k, and there is room for the whole line
 pub record Wrote (bytes : List ℕ) (at : ℕ) (out₀ out : List ℕ) (k i : ℕ) : Type 0 where
@@ -32,7 +32,8 @@ pairs-more : (bs : List ℕ) (i h l : ℕ) → i < length bs → h ≡ digitOf (
 unfolding pairsOf
 pairs-more bs i h l lt p q =
     let b = getD bs i 0 in
-    rw (p, q, add-one, take-suc bs i 0, pairs-append) (append-assoc (pairsOf (take i bs)) (digitOf (b / 16) ∷ []) (digitOf (b % 16) ∷ []))
+    rw (p, q, add-one, take-suc bs i 0, pairs-append)
+    (append-assoc (pairsOf (take i bs)) (digitOf (b / 16) ∷ []) (digitOf (b % 16) ∷ []))
 
 module _ (bytes : List ℕ) (at : ℕ) (out₀ : List ℕ) where
   -- nothing has been written

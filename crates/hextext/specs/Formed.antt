@@ -1,6 +1,6 @@
 -- The first line of a text without a bad line is its bytes written as a line (`first-line`), and a line that is written moves the search
 -- for a bad line behind it (`line-formed`). Assumes nothing.
-use Prim.Native.Nat.{ℕ, _+_, _*_, _-_, _/_, _%_, _<_, _≤_}
+use Prim.Native.Nat.{ℕ, _+_, _*_, _-_, _/_, _%_, _<_}
 use mathlib.Core.Path.{_≡_, refl, sym, ap, subst, _∙_}
 use mathlib.Core.Bool.{Bool, true, false, _&&_, _||_, false≢true}
 use mathlib.Core.List.{List, [], _∷_, _++_}
@@ -16,8 +16,8 @@ use Rattle.slices.specs.Test.{and-both}
 use Rattle.hextext.specs.Text.{isDigit, value, pair, Place, first, odd, even, afterDigit, mayClose, badFrom, badLine, lineBytes}
 use Rattle.hextext.specs.Text.{lineSize}
 use Rattle.hextext.specs.Written.{digitOf, pairsOf, lineText}
-use Rattle.hextext.specs.Laws.{value-numeral, value-letter, value-small, digit-of-num, digit-of-letter, digit-no-close}
-use Rattle.hextext.specs.Laws.{bytes-closed, size-closed, bytes-pair, size-pair}
+use Rattle.hextext.specs.Laws.{value-numeral, value-letter, value-small, bytes-closed, size-closed, bytes-pair, size-pair}
+use Rattle.hextext.specs.WrittenLaws.{digit-of-num, digit-of-letter, digit-no-close}
 
 -- ---- digits
 
@@ -56,15 +56,14 @@ written-digit n h = go (decLt n 10)
         ))
 
 -- the digits of a pair
-pair-high : (a b : ℕ) → pair a b / 16 ≡ value a
+pair-digits : (a b : ℕ) → (pair a b / 16 ≡ value a) × (pair a b % 16 ≡ value b)
 unfolding pair
-pair-high a b =
-    omega (arith, value-small b, div-add-mod' (value a * 16 + value b) 16, mod-lt (value a * 16 + value b) {m = 16} (omega arith))
-
-pair-low : (a b : ℕ) → pair a b % 16 ≡ value b
-unfolding pair
-pair-low a b =
-    omega (arith, value-small b, div-add-mod' (value a * 16 + value b) 16, mod-lt (value a * 16 + value b) {m = 16} (omega arith))
+pair-digits a b =
+    let n = value a * 16 + value b in
+    let low = value-small b in
+    let whole = div-add-mod' n 16 in
+    let rest = mod-lt n {m = 16} (omega arith) in
+    (omega (arith, low, whole, rest), omega (arith, low, whole, rest))
 
 -- ---- one byte in the search for a bad line
 
@@ -117,7 +116,8 @@ after-place false = refl
 abbrev FirstLine : List ℕ → Type 0
 FirstLine t = t ≡ lineText (lineBytes t) ++ drop (lineSize t) t
 
-first-from : (n : ℕ) (c : Bool) (t : List ℕ) → 0 < n → (c ≡ false → 0 < length t) → badFrom n (place c) t ≡ 0 → FirstLine t
+first-from : (n : ℕ) (c : Bool) (t : List ℕ) → 0 < n → (c ≡ false → 0 < length t) → badFrom n (place c) t ≡ 0
+    → FirstLine t
 unfolding badFrom lineBytes lineSize lineText pairsOf
 first-from n false [] h some e = let f : ⊥ = omega (arith, some refl) in absurd f
 first-from n true [] h some e = let f : ⊥ = omega arith in absurd f
@@ -142,8 +142,8 @@ first-from n c (a ∷ b ∷ t) h some e = go (ℕ-discrete a 10) (λ f. first-fr
         let r = behind (sym (at-digit n odd b t g k) ∙ o) in
         rw (bytes-pair a b t f, size-pair a b t f, ← drop-drop (lineSize t) 2 (a ∷ b ∷ t))
         (λ j.
-        (sym (digit-same a d) ∙ ap digitOf (sym (pair-high a b))) j
-        ∷ (sym (digit-same b k) ∙ ap digitOf (sym (pair-low a b))) j ∷ r j)
+        (sym (digit-same a d) ∙ ap digitOf (sym (pair-digits a b .0))) j
+        ∷ (sym (digit-same b k) ∙ ap digitOf (sym (pair-digits a b .1))) j ∷ r j)
 
 -- of a text without a bad line
 pub first-line : (t : List ℕ) → badLine t ≡ 0 → t ≡ lineText (lineBytes t) ++ drop (lineSize t) t
@@ -156,20 +156,24 @@ first-line (b ∷ t) e = first-from 1 false (b ∷ t) (omega arith) (λ g. omega
 written-on : (n : ℕ) (p : Place) (d : ℕ) (t : List ℕ) → d < 16 → badFrom n p (digitOf d ∷ t) ≡ badFrom n (afterDigit p) t
 written-on n p d t h = at-digit n p (digitOf d) t (digit-no-close d) (written-digit d h)
 
-high-small : (b : ℕ) → b < 256 → b / 16 < 16
-high-small b h = omega (arith, div-add-mod' b 16, mod-lt b {m = 16} (omega arith))
+-- a pair goes on in the line
+pair-on : (n : ℕ) (c : Bool) (b : ℕ) (t : List ℕ) → b < 256
+    → badFrom n (place c) (digitOf (b / 16) ∷ digitOf (b % 16) ∷ t) ≡ badFrom n even t
+pair-on n c b t h =
+    let low : b % 16 < 16 = mod-lt b (omega arith) in
+    written-on n (place c) (b / 16) (digitOf (b % 16) ∷ t) (omega (arith, div-add-mod' b 16, low))
+    ∙ ap (λ (p : Place). badFrom n p (digitOf (b % 16) ∷ t)) (after-place c)
+    ∙ written-on n odd (b % 16) t low
 
--- the rest of a line behind a pair
-rest-formed : (n : ℕ) (bs t : List ℕ) → Every (λ (x : ℕ). x < 256) bs → badFrom n even (lineText bs ++ t) ≡ badFrom (n + 1) first t
+formed-from : (n : ℕ) (c : Bool) (bs t : List ℕ) → (c ≡ false → 0 < length bs) → Every (λ (x : ℕ). x < 256) bs
+    → badFrom n (place c) (lineText bs ++ t) ≡ badFrom (n + 1) first t
 unfolding lineText pairsOf
-rest-formed n [] t h = by-step n even 10 t
-rest-formed n (b ∷ bs) t h =
-    written-on n even (b / 16) _ (high-small b (h .0)) ∙ written-on n odd (b % 16) _ (mod-lt b (omega arith)) ∙ rest-formed n bs t (h .1)
+formed-from n false [] t some h = let f : ⊥ = omega (arith, some refl) in absurd f
+formed-from n true [] t some h = by-step n even 10 t
+formed-from n c (b ∷ bs) t some h =
+    pair-on n c b (lineText bs ++ t) (h .0) ∙ formed-from n true bs t (λ g. absurd (false≢true (sym g))) (h .1)
 
 -- a line of one byte or more: the search goes on behind it
 pub line-formed : (n : ℕ) (bs t : List ℕ) → 0 < length bs → Every (λ (x : ℕ). x < 256) bs
     → badFrom n first (lineText bs ++ t) ≡ badFrom (n + 1) first t
-unfolding lineText pairsOf
-line-formed n [] t some h = let f : ⊥ = omega arith in absurd f
-line-formed n (b ∷ bs) t some h =
-    written-on n first (b / 16) _ (high-small b (h .0)) ∙ written-on n odd (b % 16) _ (mod-lt b (omega arith)) ∙ rest-formed n bs t (h .1)
+line-formed n bs t some h = formed-from n false bs t (λ g. some) h

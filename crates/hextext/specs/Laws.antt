@@ -1,20 +1,18 @@
--- Laws of texts: the values of digits, the line that starts at a place of a text, and that a line written is read as the same bytes.
--- Assumes nothing.
-use Prim.Native.Nat.{ℕ, zero, suc, _+_, _*_, _-_, _/_, _%_, _<_, _≤_}
+-- Laws of texts that are read: the values of digits, the line that starts at a place of a text, its first bad line. Assumes nothing.
+use Prim.Native.Nat.{ℕ, zero, suc, _+_, _-_, _%_, _<_, _≤_}
 use mathlib.Core.Path.{_≡_, refl, sym, ap, subst, _∙_}
 use mathlib.Core.Bool.{Bool, true, false, cond}
-use mathlib.Core.List.{List, [], _∷_, _++_}
-use native.Mathlib.Decide.{ℕ-discrete, decLt}
-use native.Mathlib.Nat.{mod-lt, div-add-mod'}
+use mathlib.Core.List.{List, [], _∷_}
+use native.Mathlib.Decide.{ℕ-discrete}
+use native.Mathlib.Nat.{mod-lt}
 use native.Mathlib.Omega.{arith}
-use lib.ListN.{length, drop, getD, length-append, length-drop, drop-of-length-le}
+use lib.ListN.{length, drop, getD, length-drop, drop-of-length-le}
 use lib.Seq.{drop-drop}
 use lib.Dec.{eqb, leb}
-use borrow.Author.Tests.{eq-eqb, ne-eqb, lt-ltb, le-ltb, le-leb, lt-leb}
+use borrow.Author.Tests.{eq-eqb, ne-eqb, le-leb, lt-leb}
 use Rattle.slices.specs.Every.{Every}
 use Rattle.hextext.specs.Text.{isDigit, value, pair, Place, first, afterDigit, mayClose, mayEnd, badFrom, badLine, lineBytes}
 use Rattle.hextext.specs.Text.{lineSize, lines, onFirst}
-use Rattle.hextext.specs.Written.{digitOf, pairsOf, lineText}
 
 -- the value of a digit 0-9 and of a digit A-F
 pub value-numeral : (b : ℕ) → 48 ≤ b → b ≤ 57 → value b ≡ b - 48
@@ -39,16 +37,6 @@ pub no-digit-low : (b : ℕ) → b < 48 → isDigit b ≡ false
 unfolding isDigit
 no-digit-low b h = simp (lt-leb 48 b h, lt-leb 65 b (omega arith))
 
--- the digit of a number, by whether it is a figure or a letter
-module _ (n : ℕ) where
-  pub digit-of-num : n < 10 → digitOf n ≡ n + 48
-  unfolding digitOf
-  digit-of-num h = simp (lt-ltb n 10 h) (omega arith)
-
-  pub digit-of-letter : 10 ≤ n → digitOf n ≡ n + 55
-  unfolding digitOf
-  digit-of-letter h = simp (le-ltb n 10 h) (omega arith)
-
 -- a pair spells a byte
 pub pair-small : (h l : ℕ) → pair h l < 256
 unfolding pair
@@ -70,7 +58,7 @@ module _ (a : ℕ) (e : a ≡ 10) where
   size-closed [] = refl
   size-closed (b ∷ t) = ap (choice 1 (2 + lineSize t)) (eq-eqb a 10 e)
 
-  lines-closed : (t : List ℕ) → lines (a ∷ t) ≡ [] ∷ lines t
+  pub lines-closed : (t : List ℕ) → lines (a ∷ t) ≡ [] ∷ lines t
   unfolding lines
   lines-closed [] = refl
   lines-closed (b ∷ t) = ap (choice ([] ∷ lines (b ∷ t)) (onFirst (pair a b) (lines t))) (eq-eqb a 10 e)
@@ -85,7 +73,7 @@ module _ (a b : ℕ) (t : List ℕ) (e : a ≡ 10 → ⊥) where
   unfolding lineSize
   size-pair = ap (choice 1 (2 + lineSize t)) (ne-eqb a 10 e)
 
-  lines-pair : lines (a ∷ b ∷ t) ≡ onFirst (pair a b) (lines t)
+  pub lines-pair : lines (a ∷ b ∷ t) ≡ onFirst (pair a b) (lines t)
   unfolding lines
   lines-pair = ap (choice ([] ∷ lines (b ∷ t)) (onFirst (pair a b) (lines t))) (ne-eqb a 10 e)
 
@@ -168,55 +156,6 @@ module _ (t : List ℕ) (i : ℕ) where
   -- so what is left of the text is less behind it
   pub line-falls : i < length t → (next : ℕ) → next ≡ i + lineSize (drop i t) → length t - next < length t - i
   line-falls h next e = omega (arith, line-size-pos h)
-
--- a digit written is read as the number
-digit-back : (n : ℕ) → n < 16 → value (digitOf n) ≡ n
-digit-back n h = go (decLt n 10)
-  where
-    go : Dec (n < 10) → value (digitOf n) ≡ n
-    go (yes l) = rw (digit-of-num n l) (value-numeral (n + 48) (omega arith) (omega arith) ∙ omega arith)
-    go (no l) = rw (digit-of-letter n (omega arith)) (value-letter (n + 55) (omega arith) (omega arith) ∙ omega arith)
-
--- a pair written is read as the byte
-pair-back : (b : ℕ) → b < 256 → pair (digitOf (b / 16)) (digitOf (b % 16)) ≡ b
-unfolding pair
-pair-back b h =
-    let l : b % 16 < 16 = mod-lt b (omega arith) in
-    let k : b / 16 < 16 = omega (arith, div-add-mod' b 16) in
-    simp (digit-back (b / 16) k, digit-back (b % 16) l) (div-add-mod' b 16)
-
--- no digit is 0A
-pub digit-no-close : (n : ℕ) → digitOf n ≡ 10 → ⊥
-digit-no-close n e = go (decLt n 10)
-  where
-    go : Dec (n < 10) → ⊥
-    go (yes l) = omega (arith, digit-of-num n l)
-    go (no l) = omega (arith, digit-of-letter n (omega arith))
-
--- the pairs of bytes in two parts
-pub pairs-append : (bs cs : List ℕ) → pairsOf (bs ++ cs) ≡ pairsOf bs ++ pairsOf cs
-unfolding pairsOf
-pairs-append [] cs = refl
-pairs-append (b ∷ bs) cs = ap (λ (l : List ℕ). digitOf (b / 16) ∷ digitOf (b % 16) ∷ l) (pairs-append bs cs)
-
--- two digits a byte
-pub length-pairs : (bs : List ℕ) → length (pairsOf bs) ≡ 2 * length bs
-unfolding pairsOf
-length-pairs [] = refl
-length-pairs (b ∷ bs) = omega (arith, length-pairs bs)
-
--- a line has two digits a byte and its 0A
-pub length-line : (bs : List ℕ) → length (lineText bs) ≡ 2 * length bs + 1
-unfolding lineText
-length-line bs = simp (length-append, length-pairs)
-
--- a line written in front of a text is read as the same bytes, and the text's lines behind it
-pub read-back : (bs t : List ℕ) → ((i : ℕ) → i < length bs → getD bs i 0 < 256) → lines (lineText bs ++ t) ≡ bs ∷ lines t
-unfolding lineText pairsOf
-read-back [] t small = lines-closed 10 refl t
-read-back (b ∷ bs) t small =
-    lines-pair (digitOf (b / 16)) (digitOf (b % 16)) (lineText bs ++ t) (digit-no-close (b / 16))
-    ∙ rw (pair-back b (small 0 (omega arith))) (ap (onFirst b) (read-back bs t (λ i h. small (suc i) (omega arith))))
 
 -- a property of a line's bytes, of every line
 abbrev SmallLines : List (List ℕ) → Type 0

@@ -8,7 +8,7 @@ use native.Mathlib.Decide.{decLe}
 use native.Mathlib.Omega.{arith}
 use borrow.Author.Tests.{le-leb, lt-leb}
 use lib.ListN.{length}
-use Rattle.hextext.specs.Laws.{length-line}
+use Rattle.hextext.specs.WrittenLaws.{length-line}
 use Rattle.hextext.specs.Fields.{bigEndian, length-big-endian}
 use Rattle.slices.specs.Over.{length-over, take-over}
 use Rattle.reporting.specs.declared.Shown.{Shown}
@@ -28,7 +28,8 @@ pub line-most : (text : List ℕ) (tree work : ℕ) → lineOf (findText text tr
 line-most text tree work = elim (refuses-or-accepts text) [
   | inl (k, n, e) ↦ rw (refused-found text tree work k n e) (refused-within text k n e .1)
   | inr (s, a) ↦ rw (sheet-found text tree work s a)
-      (by-lengths s tree work (λ o. lineOf o ≤ 16385) (λ q. omega arith) (λ q. omega arith) (λ t q. omega arith) (λ t q. omega arith))
+      (by-lengths s tree work (λ o. lineOf o ≤ 16385)
+      (λ q. omega arith) (λ q. omega arith) (λ t q. omega arith) (λ t q. omega arith))
 ]
 
 -- the line of a refusal has nine bytes
@@ -52,12 +53,14 @@ Fits (refused k n) room = Unit {0}
 
 pub prints : (page : Outcome (List ℕ)) {score scoreAfter line lineAfter : List ℕ} {answer : Shown} → Fits page (length score)
     → answer ≡ shownOf page
-    → scoreAfter ≡ writing.scoreAfter page score → lineAfter ≡ lineWith page line → Prints page score scoreAfter line lineAfter answer
+    → scoreAfter ≡ writing.scoreAfter page score → lineAfter ≡ lineWith page line
+    → Prints page score scoreAfter line lineAfter answer
 unfolding writing.scoreAfter
 prints page {score} {scoreAfter} {line} {lineAfter} {answer} h a s l =
     record { text = is page h a s l; shown = a; score-is = s; line-is = l }
   where
-    is : (page : Outcome (List ℕ)) → Fits page (length score) → answer ≡ shownOf page → scoreAfter ≡ writing.scoreAfter page score
+    is : (page : Outcome (List ℕ)) → Fits page (length score) → answer ≡ shownOf page
+        → scoreAfter ≡ writing.scoreAfter page score
         → lineAfter ≡ lineWith page line → printed answer scoreAfter lineAfter ≡ pageText page
     is (accepted text) h a s l = rw (a, s) (take-over text score h)
     is (refused k n) h a s l = rw (a, l) refl

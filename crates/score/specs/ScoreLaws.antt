@@ -6,7 +6,7 @@ use mathlib.Core.List.{List, [], _∷_}
 use native.Mathlib.Omega.{arith}
 use lib.ListN.{length, length-append, length-map}
 use Rattle.hextext.specs.Written.{lineText}
-use Rattle.hextext.specs.Laws.{length-line}
+use Rattle.hextext.specs.WrittenLaws.{length-line}
 use Rattle.hextext.specs.Fields.{length-big-endian}
 use Rattle.sheet.specs.Sheet.{Sheet}
 use Rattle.sheet.specs.Good.{GoodOnsets}

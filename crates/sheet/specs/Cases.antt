@@ -48,15 +48,17 @@ pub S-slid : slid 150 S ≡ textOf "4702000096\n" ++ drop 11 S
 unfolding slid
 S-slid = refl
 
--- its lines are those of S but for a's field; those of S with another start nonterminal, or another weight, are not
+-- S with another first and second line
 abbrev withLines : (first second : String) → List ℕ
 withLines first second = textOf first ++ textOf second ++ drop 22 S
 
+-- with another a its lines are those of S but for a's field; with another start nonterminal, or another weight, they are not
 pub S-alike : AlikeTexts S (withLines "4702000096\n" "4C00000101\n")
 unfolding lines
 S-alike = refl
 
-pub S-unlike : (AlikeTexts S (withLines "470201000A\n" "4C00000101\n") → ⊥) × (AlikeTexts S (withLines "4702000096\n" "4C00000201\n") → ⊥)
+pub S-unlike : (AlikeTexts S (withLines "470201000A\n" "4C00000101\n") → ⊥)
+    × (AlikeTexts S (withLines "4702000096\n" "4C00000201\n") → ⊥)
 unfolding lines
 S-unlike = (λ e. differ 2 0 e (omega arith), λ e. differ 3 1 e (omega arith))
   where

@@ -11,7 +11,7 @@ use lib.ListN.{length}
 use Rattle.slices.specs.Every.{Every, every-at}
 use Rattle.hextext.specs.Text.{first, badFrom, badLine, lines}
 use Rattle.hextext.specs.Written.{pairsOf, lineText}
-use Rattle.hextext.specs.Laws.{read-back}
+use Rattle.hextext.specs.WrittenLaws.{read-back}
 use Rattle.hextext.specs.Formed.{line-formed}
 use Rattle.sheet.specs.declared.line.Line.{Line}
 use Rattle.sheet.specs.Sheet.{TimedSheet}
@@ -68,7 +68,8 @@ module _ (a : ℕ) where
       go true = refl
       go false = refl
 
-  same-lines : (r : Progress) (n : ℕ) (ls : List (List ℕ)) → Begun r → readLines (progressWith r) n ls ≡ meaningWith a (readLines r n ls)
+  same-lines : (r : Progress) (n : ℕ) (ls : List (List ℕ)) → Begun r
+      → readLines (progressWith r) n ls ≡ meaningWith a (readLines r n ls)
   unfolding readLines
   same-lines r n [] b = same-end r n
   same-lines r n (l ∷ ls) b =
@@ -126,7 +127,8 @@ module _ (c : Around) where
     same-length = refl
 
     -- the head's refusal does not look at a, and what has been read behind it is the same but for a
-    pub same-head : (ls : List (List ℕ)) → readLines nothing 1 (head x′ y′ ∷ ls) ≡ meaningWith a (readLines nothing 1 (head x y ∷ ls))
+    pub same-head : (ls : List (List ℕ))
+        → readLines nothing 1 (head x′ y′ ∷ ls) ≡ meaningWith a (readLines nothing 1 (head x y ∷ ls))
     unfolding refusal headRefusal after headOf lineOf two
     same-head ls = go (refusal nothing (lineOf (head x y))) refl
       where

@@ -12,7 +12,8 @@ use lib.ListN.{length, take, drop}
 use Rattle.slices.specs.Every.{Every, every-at}
 use Rattle.hextext.specs.Text.{badLine, lineBytes, lineSize, lines}
 use Rattle.hextext.specs.Written.{pairsOf, lineText}
-use Rattle.hextext.specs.Laws.{read-back, lines-small, byte-small}
+use Rattle.hextext.specs.Laws.{lines-small, byte-small}
+use Rattle.hextext.specs.WrittenLaws.{read-back}
 use Rattle.hextext.specs.Formed.{first-line}
 use Rattle.sheet.specs.Sheet.{Sheet, TimedSheet}
 use Rattle.sheet.specs.Multiplier.{withMultiplier, butMultiplier, AlikeTexts, slid}
@@ -31,7 +32,8 @@ record Headed (t : List ℕ) : Type 0 where
   text-is : t ≡ headed around x y
   small : Small around x y
 
-five : (l : List ℕ) → length l ≡ 5 → (k : ℕ) × (q : ℕ) × (st : ℕ) × (x : ℕ) × (y : ℕ) × (l ≡ k ∷ q ∷ st ∷ x ∷ y ∷ [])
+five : (l : List ℕ) → length l ≡ 5
+    → (k : ℕ) × (q : ℕ) × (st : ℕ) × (x : ℕ) × (y : ℕ) × (l ≡ k ∷ q ∷ st ∷ x ∷ y ∷ [])
 five [] e = let f : ⊥ = omega arith in absurd f
 five (k ∷ []) e = let f : ⊥ = omega arith in absurd f
 five (k ∷ q ∷ []) e = let f : ⊥ = omega arith in absurd f
@@ -105,8 +107,8 @@ module _ (t : List ℕ) (m : TimedSheet) (e : readSheet t ≡ accepted m) where
 -- ---- two accepted texts that are the same but for a's field
 
 -- they mean sheets that are the same but for a, and have the same timing
-pub meanings-alike : (t u : List ℕ) (m m′ : TimedSheet) → readSheet t ≡ accepted m → readSheet u ≡ accepted m′ → AlikeTexts t u
-    → accepted m′ ≡ meaningWith (m′ .sheet .grammar .multiplier) (accepted m)
+pub meanings-alike : (t u : List ℕ) (m m′ : TimedSheet) → readSheet t ≡ accepted m → readSheet u ≡ accepted m′
+    → AlikeTexts t u → accepted m′ ≡ meaningWith (m′ .sheet .grammar .multiplier) (accepted m)
 meanings-alike t u m m′ e f alike = means ∙ ap (λ (n : ℕ). meaningWith n (accepted m)) (sym own-number)
   where
     h : Headed t
@@ -143,8 +145,8 @@ texts-alike t u s s′ (timing, e) (timing′, f) alike =
     ap (λ (x : TimedSheet). x .sheet) (accepted-value (meanings-alike t u _ _ e f alike))
 
 -- texts that differ only in the digits of a are so
-pub digits-alike : (t u : List ℕ) (s s′ : Sheet) → Accepts t s → Accepts u s′ → take 6 t ≡ take 6 u → drop 10 t ≡ drop 10 u
-    → AlikeTexts t u
+pub digits-alike : (t u : List ℕ) (s s′ : Sheet) → Accepts t s → Accepts u s′
+    → take 6 t ≡ take 6 u → drop 10 t ≡ drop 10 u → AlikeTexts t u
 unfolding lineText pairsOf
 digits-alike t u s s′ (timing, e) (timing′, f) before behind =
     own-outside t _ e ∙ ap₂ _∷_ same-front (ap lines (tail-eq-of-cons-eq rests)) ∙ sym (own-outside u _ f)

@@ -13,7 +13,7 @@ use lib.ListN.{length}
 use Rattle.sheet.specs.Sheet.{Rule, division, leaf, Sheet}
 use Rattle.sheet.specs.Multiplier.{withMultiplier}
 use Rattle.derivations.specs.Derivation.{Item, Instance, derive}
-use Rattle.trees.specs.ValidTrees.{ruleAt, bars, weightAt, ValidTree, Priced, totalOf}
+use Rattle.trees.specs.ValidTrees.{ruleAt, bars, weightAt, ValidTree, Priced}
 use Rattle.trees.specs.Instance.{expandBy, instanceOf, Derived}
 use Rattle.trees.specs.Equivalence.{valid-derived, derived-valid}
 use Rattle.trees.specs.LeastTrees.{LeastTree, FirstTree, same-place, one-first-tree}
@@ -21,8 +21,8 @@ use Rattle.trees.specs.Found.{own-price}
 
 -- "With a of 1 or more, no valid tree has R and D both as small as the tree found and one of them smaller": where both are as small, both
 -- are the same
-pub none-dominates : (s : Sheet) (bs xs : List ℕ) (R D R′ D′ : ℕ) → 1 ≤ s .grammar .multiplier → LeastTree s bs R D → Priced s xs R′ D′
-    → R′ ≤ R → D′ ≤ D → (R′ ≡ R) × (D′ ≡ D)
+pub none-dominates : (s : Sheet) (bs xs : List ℕ) (R D R′ D′ : ℕ) → 1 ≤ s .grammar .multiplier
+    → LeastTree s bs R D → Priced s xs R′ D′ → R′ ≤ R → D′ ≤ D → (R′ ≡ R) × (D′ ≡ D)
 none-dominates s bs xs R D R′ D′ one l p hr hd = (same-r, omega (arith, l .least xs R′ D′ p, ap (s .grammar .multiplier *_) same-r))
   where
     a : ℕ
@@ -111,15 +111,16 @@ module _ (s : Sheet) where
   as-least a b bs xs R D l p = record { valid = priced-slid b a xs R D p; least = l .least }
 
   -- first trees with the same R and D are one list, whatever the multipliers
-  pub same-tree : (a b : ℕ) (bs xs : List ℕ) (R D : ℕ) → FirstTree (withMultiplier a s) bs R D → FirstTree (withMultiplier b s) xs R D
-      → bs ≡ xs
+  pub same-tree : (a b : ℕ) (bs xs : List ℕ) (R D : ℕ)
+      → FirstTree (withMultiplier a s) bs R D → FirstTree (withMultiplier b s) xs R D → bs ≡ xs
   same-tree a b bs xs R D f g =
       same-place bs xs (f .first xs R D (as-least a b bs xs R D (f .tree) (g .tree .valid)))
       (g .first bs R D (as-least b a xs bs R D (g .tree) (f .tree .valid)))
 
   -- So where two multipliers give the same R and D, each between them gives these too, and the same list.
   pub skips : (a b c : ℕ) (bs xs ys : List ℕ) (R D R′ D′ : ℕ) → a ≤ b → b ≤ c → FirstTree (withMultiplier a s) bs R D
-      → FirstTree (withMultiplier b s) xs R′ D′ → FirstTree (withMultiplier c s) ys R D → (xs ≡ bs) × (R′ ≡ R) × (D′ ≡ D)
+      → FirstTree (withMultiplier b s) xs R′ D′ → FirstTree (withMultiplier c s) ys R D
+      → (xs ≡ bs) × (R′ ≡ R) × (D′ ≡ D)
   skips a b c bs xs ys R D R′ D′ h k f g i = (sym (same-tree a b bs xs R D f between), r, d)
     where
       down : (R′ ≤ R) × (D ≤ D′)
@@ -135,4 +136,6 @@ module _ (s : Sheet) where
       d = omega (arith, down .1, up .1)
 
       between : FirstTree (withMultiplier b s) xs R D
-      between = subst (λ (n : ℕ). FirstTree (withMultiplier b s) xs n D) r (subst (λ (n : ℕ). FirstTree (withMultiplier b s) xs R′ n) d g)
+      between =
+          subst (λ (n : ℕ). FirstTree (withMultiplier b s) xs n D) r
+          (subst (λ (n : ℕ). FirstTree (withMultiplier b s) xs R′ n) d g)

@@ -2,7 +2,7 @@
 use mathlib.Core.Path.{sym}
 use borrow.Author.Needs.{needs}
 use native.Mathlib.Omega.{arith}
-use Rattle.hextext.specs.Laws.{digit-of-num, digit-of-letter}
+use Rattle.hextext.specs.WrittenLaws.{digit-of-num, digit-of-letter}
 use Rattle.hextext.proofs.digit_of.Statement.{statement}
 use Rattle.hextext.proofs.digit_of.Tie as tie
 
