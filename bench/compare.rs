@@ -7,11 +7,15 @@
 mod facts;
 mod features;
 mod finding;
+mod grammars;
 mod harness;
+mod heads;
 mod library;
 mod listing;
 mod lists;
 mod multipliers;
+mod ordering;
+mod orders;
 mod pricing;
 mod reading;
 mod rules;
@@ -20,6 +24,7 @@ mod sheets;
 mod slides;
 mod sliding;
 mod takes;
+mod timing;
 mod trees;
 mod tunes;
 

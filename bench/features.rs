@@ -1,6 +1,7 @@
 //! What the sheets met that a search can get wrong, counted by the trees handed
 //! back.
 
+use crate::heads::Heads;
 use crate::peer::{self, Sheet, BAR_UNITS, REST};
 use crate::trees;
 
@@ -9,6 +10,7 @@ use crate::trees;
 pub struct Features {
     trees: usize,
     equals: Equals,
+    heads: Heads,
     over_part: usize,
     over_bar: usize,
     two_over_bar: usize,
@@ -32,6 +34,7 @@ impl Features {
         if list != last {
             self.equals.add(sheet, list, last);
         }
+        self.heads.add(sheet, list);
         let leaves = leaves(sheet, list);
         let carried = carried(sheet, &leaves);
         let over_bar = |&&left: &&u32| left % BAR_UNITS == 0;
@@ -84,8 +87,14 @@ impl Features {
         }
     }
 
+    /// Gives whether the trees show enough of equals, and all there is of heads.
+    pub fn all_met(&self) -> bool {
+        let equals = self.equals_met();
+        self.heads.all_met() && equals
+    }
+
     /// Gives whether enough trees were the first of several, also of each sort.
-    pub fn equals_met(&self) -> bool {
+    fn equals_met(&self) -> bool {
         let sorts = self.equals.named();
         let many = self.equals.several * EQUALS_IN > self.trees;
         let met = many && sorts.iter().all(|sort| sort.1 * SORTS_IN > self.trees);
@@ -97,7 +106,7 @@ impl Features {
 
     pub fn print(&self) {
         println!("  trees handed back: {}, of which", self.trees);
-        for (feature, count) in self.equals.named() {
+        for (feature, count) in self.equals.named().into_iter().chain(self.heads.named()) {
             println!("    {count:>6} {feature}");
         }
         for (feature, count) in [

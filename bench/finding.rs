@@ -4,23 +4,22 @@
 //! figures expected are the price of the peer's tree, to which its total is held.
 
 use crate::features::Features;
-use crate::harness::{self, dirt, same, Difference, Outcomes};
+use crate::harness::{dirt, same, Difference, Outcomes};
 use crate::peer::{self, Sheet};
 use crate::search::Search;
 use crate::sheets::{Case, Dice};
 use crate::trees::{self, Price};
-use crate::{library, takes, tunes};
-use std::hint::black_box;
+use crate::{library, takes, timing};
 
-const WORK_SHORT: u8 = 9;
-const TREE_SHORT: u8 = 10;
-const NO_TREE: u8 = 11;
+pub const WORK_SHORT: u8 = 9;
+pub const TREE_SHORT: u8 = 10;
+pub const NO_TREE: u8 = 11;
 
 /// Cells and bytes before and after a lent slice, which must be kept too.
 const AROUND: usize = 16;
 
-/// Gives whether no difference was found, every outcome occurred and enough trees
-/// were the first of several.
+/// Gives whether no difference was found, every outcome occurred, enough trees were
+/// the first of several, and the rules of heads stood in every way that is counted.
 pub fn run(seed: u64, sheets: usize) -> bool {
     println!("Comparing trees found by the library and the peer on {sheets} sheets, seed {seed}.");
     let Some(counts) = compare_all(seed, sheets) else {
@@ -29,43 +28,10 @@ pub fn run(seed: u64, sheets: usize) -> bool {
     println!("No difference. By outcome:");
     counts.outcomes.print();
     counts.features.print();
-    time_all();
+    timing::time_all();
     let outcomes = counts.outcomes.all_met();
-    counts.features.equals_met() && outcomes
+    counts.features.all_met() && outcomes
 }
-
-/// The peer's entry, with what the library's gives. Kept out of line, as that is.
-#[inline(never)]
-fn peer_find(search: &mut Search, text: &[u8], tree: &mut [u8], work: &mut [u64]) -> [u64; 6] {
-    let refused = |number: u8, line: u16| [number.into(), line.into(), 0, 0, 0, 0];
-    let sheet = match peer::read(text) {
-        Err((number, line)) => return refused(number, line),
-        Ok(sheet) => sheet,
-    };
-    let Some(cells) = work.get_mut(..peer::work_cells(&sheet) as usize) else {
-        return refused(WORK_SHORT, 0);
-    };
-    if (tree.len() as u64) < peer::tree_bytes(&sheet) {
-        return refused(TREE_SHORT, 0);
-    }
-    cells.fill(0);
-    let Some(total) = search.find(&sheet) else {
-        return refused(NO_TREE, 0);
-    };
-    let nodes = search.write_tree(tree);
-    let weights = tree[..nodes].iter().map(|&rule| weight(&sheet, rule));
-    let r: u64 = weights.sum();
-    let d = total - u64::from(sheet.multiplier) * r;
-    [0, 0, nodes as u64, r, d, total]
-}
-
-fn weight(sheet: &Sheet, rule: u8) -> u64 {
-    match sheet.rules[usize::from(rule)] {
-        peer::Rule::Division { weight, .. } | peer::Rule::Leaf { weight, .. } => weight.into(),
-    }
-}
-
-// Comparing.
 
 struct Counts {
     outcomes: Outcomes,
@@ -268,84 +234,4 @@ fn dirty_cells(dice: &mut Dice, length: usize) -> Vec<u64> {
             cells.collect()
         }
     }
-}
-
-// Timing.
-
-struct Timed {
-    name: String,
-    bars: usize,
-    text: Vec<u8>,
-    bytes: usize,
-    cells: usize,
-}
-
-impl Timed {
-    fn new(name: &str, text: Vec<u8>) -> Timed {
-        let sheet = peer::read(&text).expect("the sheet is accepted");
-        let (rules, onsets) = (sheet.rules.len(), sheet.onsets.len());
-        Timed {
-            name: format!(
-                "{name}, {} bars, {onsets} onsets, {rules} rules",
-                sheet.bars
-            ),
-            bars: sheet.bars.into(),
-            bytes: peer::tree_bytes(&sheet) as usize,
-            cells: peer::work_cells(&sheet) as usize,
-            text,
-        }
-    }
-
-    /// Prints the times of the library and the peer over all rounds.
-    fn print(&self, library: &[f64], peer: &[f64]) {
-        let ratios = library.iter().zip(peer).map(|(one, other)| one / other);
-        let ratio = harness::median(ratios.collect());
-        let microseconds = |times: &[f64]| harness::median(times.to_vec()) / 1_000.0;
-        let (library, peer) = (microseconds(library), microseconds(peer));
-        let bars = self.bars as f64;
-        println!(
-            "  {}: library {library:.1} us, {:.2} us a bar; peer {peer:.1} us, {:.2} us a bar; \
-             library / peer {ratio:.2}",
-            self.name,
-            library / bars,
-            peer / bars
-        );
-    }
-}
-
-fn time_all() {
-    println!(
-        "Timing from the text to the tree: {}. Text and slices are the same in all rounds, and \
-         the work slice is 0 before each call.",
-        harness::how_timed_by_rounds()
-    );
-    time(&Timed::new("tune", tunes::tune(32)));
-    time(&Timed::new("heaviest, halves and thirds", tunes::plain()));
-    time(&Timed::new("heaviest, all divide", tunes::wide()));
-    time(&Timed::new(
-        "heaviest, fourteen divide by three",
-        tunes::fourteen(),
-    ));
-    time(&Timed::new("heaviest, ten divide by four", tunes::ten()));
-    time(&Timed::new("heaviest, six divide by all", tunes::dense()));
-    println!(" Such tunes, short and long:");
-    for bars in [8, 16, 32, 64] {
-        time(&Timed::new("tune", tunes::tune(bars)));
-    }
-}
-
-fn time(timed: &Timed) {
-    let mut tree = vec![0; timed.bytes];
-    let mut work = vec![0; timed.cells];
-    let mut search = Search::default();
-    let times = harness::times_by_rounds(2, |turn| {
-        let text = black_box(&timed.text);
-        let answer = match turn {
-            0 => library::find(text, &mut tree, &mut work),
-            _ => peer_find(&mut search, text, &mut tree, &mut work),
-        };
-        assert_eq!(answer[0], 0, "{}", timed.name);
-        black_box(answer);
-    });
-    timed.print(&times[0], &times[1]);
 }

@@ -146,6 +146,12 @@ pub fn median(mut numbers: Vec<f64>) -> f64 {
     numbers[numbers.len() / 2]
 }
 
+/// The median over the rounds of one work's time over another's.
+pub fn median_ratio(times: &[f64], others: &[f64]) -> f64 {
+    let ratios = times.iter().zip(others).map(|(time, other)| time / other);
+    median(ratios.collect())
+}
+
 /// One repetition's time in a run.
 fn nanoseconds(repetitions: usize, mut work: impl FnMut()) -> f64 {
     let begun = Instant::now();

@@ -389,7 +389,7 @@ impl Growth<'_> {
     }
 }
 
-fn head(rule: &Rule) -> u8 {
+pub fn head(rule: &Rule) -> u8 {
     match *rule {
         Rule::Division { head, .. } | Rule::Leaf { head, .. } => head,
     }
@@ -403,7 +403,7 @@ fn leaf_head(sheet: &Sheet, number: u8, wanted: usize) -> Option<u8> {
     }
 }
 
-fn is_division(rule: &Rule) -> bool {
+pub fn is_division(rule: &Rule) -> bool {
     matches!(rule, Rule::Division { .. })
 }
 

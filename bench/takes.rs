@@ -2,9 +2,10 @@
 //! wrong, many of them with several least trees, a few large or long ones, small
 //! ones with a damaged text, and the texts that readings are compared on.
 
-use crate::lists::{duration, leaf_of, played, sheet_text, units};
+use crate::grammars::{grammar, light_grammar};
+use crate::lists::{duration, played, sheet_text, units};
 use crate::peer::{self, BAR_UNITS};
-use crate::sheets::{self, Case, Dice, MAX_RULES, REST};
+use crate::sheets::{self, Case, Dice};
 
 /// The work cells required of a sheet: few enough for many comparisons, and
 /// more only now and then.
@@ -60,19 +61,6 @@ pub fn small(dice: &mut Dice) -> Vec<u8> {
     played(dice, lines, bars, duration, &units)
 }
 
-/// Arities that stand together in a grammar.
-const ARITIES: [&[usize]; 9] = [
-    &[2],
-    &[2],
-    &[3],
-    &[2, 3],
-    &[2, 4, 8],
-    &[3, 5],
-    &[5, 7, 8],
-    &[2, 3, 5, 7, 8],
-    &[2, 3, 4, 5, 6, 7, 8],
-];
-
 /// The heaviest weight and the multiplier. Most often such that weights and
 /// distances outbid each other, so that a search has to weigh them.
 fn scale(dice: &mut Dice) -> (usize, u16) {
@@ -83,92 +71,6 @@ fn scale(dice: &mut Dice) -> (usize, u16) {
         2 => (dice.pick(&[0, 12, 65_535]), any),
         _ => dice.pick(&[(3, 1_000), (12, 300), (40, 20), (100, 40), (3_000, 1)]),
     }
-}
-
-fn grammar(dice: &mut Dice, (heaviest, multiplier): (usize, u16)) -> Vec<Vec<u8>> {
-    let nonterminals = dice.pick(&[1, 1, 2, 2, 3, 4]);
-    let mut rules = leaves(dice, nonterminals);
-    let arities = dice.pick(&ARITIES);
-    for _ in 0..dice.between(1, 3 * nonterminals + 3) {
-        let arity = dice.pick(arities);
-        rules.push(sheets::division(dice, nonterminals, arity));
-    }
-    set_weights(dice, &mut rules, heaviest);
-    // Equal rules may stand twice, also with unequal weights.
-    while dice.one_in(3) && rules.len() < MAX_RULES {
-        let mut rule = rules[dice.below(rules.len())].clone();
-        rule[3] ^= dice.pick(&[0, 1]);
-        rules.push(rule);
-    }
-    headed(dice, nonterminals, multiplier, rules)
-}
-
-/// The rules in any order, behind their head.
-fn headed(
-    dice: &mut Dice,
-    nonterminals: usize,
-    multiplier: u16,
-    mut rules: Vec<Vec<u8>>,
-) -> Vec<Vec<u8>> {
-    dice.shuffle(&mut rules);
-    let mut head = sheets::grammar_head(dice, nonterminals);
-    head[3..].copy_from_slice(&multiplier.to_be_bytes());
-    rules.insert(0, head);
-    rules
-}
-
-/// Now and then leaves that place nothing, or little, are much the heaviest, so
-/// that a carry is worth more than the tree it leaves. Rests are then as heavy, or
-/// light, so that a rest is worth more or less than a continuation.
-fn set_weights(dice: &mut Dice, rules: &mut [Vec<u8>], heaviest: usize) {
-    let dear = dice.pick(&[0, 0, 1, 2]);
-    let dear_rests = dice.one_in(2);
-    for rule in rules {
-        let n = usize::from(rule[4]);
-        let is_dear = rule[0] == 0x4C && (n < dear || (n == REST && dear_rests));
-        let weight = match (dear, is_dear) {
-            (0, _) => dice.between_edged(0, heaviest),
-            (_, true) => dice.between(heaviest / 2, heaviest),
-            (_, false) => dice.between(0, heaviest / 8),
-        };
-        rule[2..4].copy_from_slice(&(weight as u16).to_be_bytes());
-    }
-}
-
-/// What leaves a nonterminal has, by n: most often all, else some with which
-/// certain carries are needed, or of no use.
-const LEAVES: [&[usize]; 11] = [
-    &[0, 1, 2, 3, REST],
-    &[0, 1, 2, 3, REST],
-    &[0, 1, 2, 3],
-    &[0, 1, REST],
-    &[1],
-    &[1, REST],
-    &[1, 2, 3, REST],
-    &[2, 3],
-    &[0],
-    &[REST],
-    &[],
-];
-
-/// One leaf at least, and leaves of every n, or with gaps, or by nonterminal.
-fn leaves(dice: &mut Dice, nonterminals: usize) -> Vec<Vec<u8>> {
-    let chances = dice.pick(&[1_000, 1_000, 8, 3]);
-    let by_name = dice.one_in(3);
-    let mut rules = vec![sheets::leaf(dice, nonterminals)];
-    for head in 0..nonterminals {
-        let all = if by_name {
-            dice.pick(&LEAVES)
-        } else {
-            LEAVES[0]
-        };
-        for &n in all {
-            if !dice.one_in(chances) {
-                rules.push(leaf_of(dice, head, n));
-            }
-        }
-    }
-    rules
 }
 
 // Sheets with several least trees.
@@ -220,23 +122,4 @@ fn late(dice: &mut Dice, bars: usize, onsets: usize) -> Vec<u8> {
     }
     units.sort_unstable();
     played(dice, lines, bars, BAR, &units)
-}
-
-/// Leaves of every n and a few divisions, of weights 0, 1 and 2.
-fn light_grammar(dice: &mut Dice, multiplier: u16) -> Vec<Vec<u8>> {
-    let nonterminals = dice.between(1, 2);
-    let mut rules = Vec::new();
-    for head in 0..nonterminals {
-        rules.extend((0..=REST).map(|n| leaf_of(dice, head, n)));
-    }
-    for rule in &mut rules {
-        (rule[2], rule[3]) = (0, dice.pick(&[0, 0, 1]));
-    }
-    for _ in 0..dice.between(1, 4) {
-        let arity = dice.pick(&[2, 2, 3, 4]);
-        let mut rule = sheets::division(dice, nonterminals, arity);
-        (rule[2], rule[3]) = (0, dice.pick(&[0, 1, 1, 2]));
-        rules.push(rule);
-    }
-    headed(dice, nonterminals, multiplier, rules)
 }

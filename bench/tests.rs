@@ -4,16 +4,21 @@
 #![allow(dead_code)]
 
 mod facts;
+mod grammars;
 mod harness;
+mod heads;
 mod holding;
 mod listing;
 mod lists;
 mod multipliers;
+mod order_tests;
+mod orders;
 mod rules;
 mod search;
 mod sheets;
 mod slide_tests;
 mod takes;
 mod trees;
+mod tunes;
 
 use trees::peer;

@@ -2,6 +2,7 @@
 //! and the heaviest sheets.
 
 use crate::lists::{eight_anywhere, leaf_of, played, units_by_bar};
+use crate::orders::Order;
 use crate::peer::BAR_UNITS;
 use crate::sheets::{self, Dice};
 
@@ -80,21 +81,28 @@ fn played_near(dice: &mut Dice, place: usize) -> usize {
 /// many that divide little: more rows are reached. The rules leave no room for
 /// rests, so the first onset is at the front.
 fn heaviest(dividing: usize, arities: impl Fn(usize) -> Vec<usize>) -> Vec<u8> {
+    heaviest_in(Order::Grouped, dividing, arities)
+}
+
+/// The same with the rules in some order.
+fn heaviest_in(order: Order, dividing: usize, arities: impl Fn(usize) -> Vec<usize>) -> Vec<u8> {
     const NONTERMINALS: usize = 16;
     const BARS: usize = 64;
     let mut dice = Dice::new(64);
-    let mut lines = vec![vec![0x47, NONTERMINALS as u8, 0, 0, 1]];
+    let mut rules = Vec::new();
     for head in 0..dividing {
         for arity in arities(head) {
             let mut line = light(sheets::division(&mut dice, dividing, arity), &mut dice);
             line[1] = head as u8;
-            lines.push(line);
+            rules.push(line);
         }
     }
-    for at in 0..=sheets::MAX_RULES - lines.len() {
+    for at in 0..sheets::MAX_RULES - rules.len() {
         let (n, head) = (at / NONTERMINALS, at % NONTERMINALS);
-        lines.push(light(leaf_of(&mut dice, head, n), &mut dice));
+        rules.push(light(leaf_of(&mut dice, head, n), &mut dice));
     }
+    let mut lines = vec![vec![0x47, NONTERMINALS as u8, 0, 0, 1]];
+    lines.extend(order.of(&rules));
     let mut units = units_by_bar(&mut dice, BARS, eight_anywhere);
     units[0] = 0;
     played(&mut dice, lines, BARS, DURATION, &units)
@@ -108,7 +116,12 @@ fn light(mut line: Vec<u8>, dice: &mut Dice) -> Vec<u8> {
 
 /// Twelve nonterminals in halves and thirds.
 pub fn plain() -> Vec<u8> {
-    heaviest(12, |_| vec![2, 3])
+    plain_in(Order::Grouped)
+}
+
+/// The same with the rules in some order: only their lines move.
+pub fn plain_in(order: Order) -> Vec<u8> {
+    heaviest_in(order, 12, |_| vec![2, 3])
 }
 
 /// All nonterminals in parts of two numbers each, so that all 84 lengths are met.

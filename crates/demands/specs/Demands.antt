@@ -1,5 +1,6 @@
--- The three demands, clause by clause, and what document 02 adds to them, as theorems about the entries: whatever meets an entry's contract
--- has what the clause asks. A reader needs this page and the definitions of `readSheet` (sheet/specs/Reading), `ValidTree`, `KindFits`,
+-- The three demands, clause by clause, as theorems about the entries: whatever meets an entry's contract has what the clause asks. What the
+-- requests of document 02 add to them is in `Requests` beside this page. A reader needs this page and the definitions of `readSheet`
+-- (sheet/specs/Reading), `ValidTree`, `KindFits`,
 -- `Priced`, `totalOf` (trees/specs/ValidTrees), `RestFits` (trees/specs/Kinds), `InDictionaryOrder`, `LeastTree`, `FirstTree`
 -- (trees/specs/LeastTrees), `treeBytes`, `workCells` (sizes/specs/Sizes), `scoreText` (score/specs/Score). x′ is x after the call.
 -- Contracts: `Reads` (sheet/specs/Held), `Prices` (pricing/specs/Pricing), `Writes` (score/specs/Writing), `Finds` (finding/specs/Finding),
@@ -14,11 +15,6 @@
 --   LineOnly k n ..                    the line of the refusal is printed; the tree slice and the score slice are kept
 --   Scored s ..                        the first least tree lies over the front of the tree slice, its `scoreOf` over that of the score
 --                                      slice, and this is printed; or, where the score slice is short of it, LineOnly 13 0
---   withMultiplier a s, slid a text    the sheet, the text, with the multiplier a in the place of its own (sheet/specs/Multiplier)
---   AlikeTexts t u                     the same lines but for a's field (sheet/specs/Multiplier)
---   Call                               a call of `find` by whatever meets `Finds` (finding/specs/Calls), x .answer what it gives
---   TreeOf s x, RoomFor s x            its text means s, and a tree is handed back; its slices have the lengths that s requires
---   foundBytes x                       the tree found
 use Prim.Native.Nat.{ℕ, _≤_, _<_}
 use mathlib.Core.Path.{_≡_, ap, _∙_}
 use mathlib.Core.List.{List, _++_}
@@ -30,13 +26,10 @@ use Rattle.sheet.specs.Sheet.{Sheet}
 use Rattle.sheet.specs.Outcome.{refused}
 use Rattle.sheet.specs.Held.{grammarTable, playingTable, readingOf, Reads}
 use Rattle.sheet.specs.Accepted.{Refuses, Accepts}
-use Rattle.sheet.specs.Multiplier.{withMultiplier, AlikeTexts, slid}
-use Rattle.sheet.specs.MultiplierLaws.{texts-alike, slid-accepted}
 use Rattle.sizes.specs.Sizes.{treeBytes, workCells}
 use Rattle.trees.specs.ValidTrees.{ValidTree, Priced, totalOf, entries, KindFits}
 use Rattle.trees.specs.Kinds.{RestFits, rests-fit}
 use Rattle.trees.specs.LeastTrees.{InDictionaryOrder}
-use Rattle.trees.specs.Sliding.{valid-slid}
 use Rattle.pricing.specs.declared.Priced as answer
 use Rattle.pricing.specs.Pricing.{Prices}
 use Rattle.pricing.specs.PriceLaws as price
@@ -49,8 +42,6 @@ use Rattle.reporting.specs.declared.Shown.{Shown}
 use Rattle.finding.specs.Finding.{Finds, cleared}
 use Rattle.finding.specs.FindLaws as find
 use Rattle.finding.specs.OneAnswer as finding
-use Rattle.finding.specs.Calls.{Call, foundBytes, TreeOf, RoomFor}
-use Rattle.finding.specs.SlidingLaws as sliding
 use Rattle.reporting.specs.Reporting.{Reports}
 use Rattle.reporting.specs.ReportLaws as report
 use Rattle.reporting.specs.ReportLaws.{LineOnly, Scored}
@@ -191,51 +182,3 @@ pub report-one-answer : (text tree t₁ t₂ work w₁ w₂ score c₁ c₂ line
     → (r₁ ≡ r₂) × (t₁ ≡ t₂) × (w₁ ≡ w₂) × (c₁ ≡ c₂) × (l₁ ≡ l₂)
 report-one-answer text tree t₁ t₂ work w₁ w₂ score c₁ c₂ line l₁ l₂ r₁ r₂ =
     reporting.one-answer text tree work score line
-
--- ==== Document 02, (xiv), sliding between plain and close. "They rely on two facts for every accepted sheet"
-
--- "With a of 1 or more, no valid tree has R and D both as small as the tree found and one of them smaller": where both are as small, both
--- are the same. With a = 0 one may be smaller (finding/specs/SlidingCases, `dominated-at-zero`).
-pub find-undominated : (s : Sheet) (x : Call) → TreeOf s x → 1 ≤ s .grammar .multiplier
-    → (bs : List ℕ) (R D : ℕ) → Priced s bs R D
-    → R ≤ x .answer .weight → D ≤ x .answer .distance → (R ≡ x .answer .weight) × (D ≡ x .answer .distance)
-find-undominated = sliding.undominated
-
--- "For two sheets alike except that a grows, when both have a tree, R doesn't rise and D doesn't fall": of sheets
-pub find-slides : (s : Sheet) (a b : ℕ) (x y : Call) → a ≤ b → TreeOf (withMultiplier a s) x → TreeOf (withMultiplier b s) y
-    → (y .answer .weight ≤ x .answer .weight) × (x .answer .distance ≤ y .answer .distance)
-find-slides = sliding.slides
-
--- and of texts that are the same but for a's field, which mean sheets that are the same but for a; every accepted text has one for each a
-pub find-slides-by-text : (s s′ : Sheet) (x y : Call) → AlikeTexts (x .text) (y .text)
-    → s .grammar .multiplier ≤ s′ .grammar .multiplier → TreeOf s x → TreeOf s′ y
-    → (y .answer .weight ≤ x .answer .weight) × (x .answer .distance ≤ y .answer .distance)
-find-slides-by-text = sliding.slides-by-text
-
-pub read-alike : (t u : List ℕ) (s s′ : Sheet) → Accepts t s → Accepts u s′ → AlikeTexts t u
-    → s′ ≡ withMultiplier (s′ .grammar .multiplier) s
-read-alike = texts-alike
-
-pub read-slid : (text : List ℕ) (s : Sheet) (a : ℕ) → Accepts text s → a ≤ 65535 → Accepts (slid a text) (withMultiplier a s)
-read-slid = slid-accepted
-
--- They have a tree both or neither: the same lists are valid, and with slices of the required lengths a tree is handed back of both or of
--- neither.
-pub trees-alike : (s : Sheet) (a b : ℕ) (bs : List ℕ) → ValidTree (withMultiplier a s) bs → ValidTree (withMultiplier b s) bs
-trees-alike = valid-slid
-
-pub find-both-or-neither : (s : Sheet) (a b : ℕ) (x y : Call) → Accepts (x .text) (withMultiplier a s)
-    → Accepts (y .text) (withMultiplier b s) → RoomFor s x → RoomFor s y → (x .answer .number ≡ 0) ↔ (y .answer .number ≡ 0)
-find-both-or-neither = sliding.both-or-neither
-
-pub find-both-or-neither-by-text : (s s′ : Sheet) (x y : Call) → AlikeTexts (x .text) (y .text) → Accepts (x .text) s
-    → Accepts (y .text) s′ → RoomFor s x → RoomFor s y → (x .answer .number ≡ 0) ↔ (y .answer .number ≡ 0)
-find-both-or-neither-by-text = sliding.both-or-neither-by-text
-
--- Beyond the request: where two multipliers give the same R and D, each between them gives these too, and the same tree.
-pub find-skipped : (s : Sheet) (a b c : ℕ) (x y z : Call) → a ≤ b → b ≤ c
-    → TreeOf (withMultiplier a s) x → TreeOf (withMultiplier b s) y → TreeOf (withMultiplier c s) z
-    → x .answer .weight ≡ z .answer .weight → x .answer .distance ≡ z .answer .distance
-    → (y .answer .weight ≡ x .answer .weight) × (y .answer .distance ≡ x .answer .distance)
-    × (y .answer .nodes ≡ x .answer .nodes) × (foundBytes y ≡ foundBytes x)
-find-skipped = sliding.skipped

@@ -2,7 +2,6 @@ pub mod Order
 pub mod Pairs
 pub mod Filling
 pub mod OrderLaws
-pub mod PutLaws
 pub mod ByArityLaws
 pub mod FallLaws
 pub mod RuleLaws

@@ -1,6 +1,6 @@
 -- What each way out of `find_sheet` gives, by what the calls before it told. Assumes nothing.
 use Prim.Native.Nat.{ℕ, _≤_, _<_}
-use mathlib.Core.Path.{_≡_, refl, sym, ap, subst, _∙_}
+use mathlib.Core.Path.{_≡_, refl, sym, ap, _∙_}
 use mathlib.Core.List.{List}
 use native.Mathlib.Omega.{arith}
 use borrow.Author.Tests.{le-ltb}
@@ -10,13 +10,16 @@ use Rattle.slices.specs.Over.{length-over, take-over}
 use Rattle.sheet.specs.declared.table.GrammarTable.{GrammarTable}
 use Rattle.sheet.specs.declared.table.PlayingTable.{PlayingTable}
 use Rattle.sheet.specs.declared.table.Reading.{Reading}
-use Rattle.sheet.specs.Sheet.{Sheet}
+use Rattle.sheet.specs.Sheet.{Grammar, Sheet}
 use Rattle.sheet.specs.Reading.{readSheet}
 use Rattle.sheet.specs.Held.{grammarTable, playingTable, readingOf}
-use Rattle.sheet.specs.Good.{Good}
+use Rattle.sheet.specs.Good.{GoodRules, Good}
 use Rattle.sheet.specs.Outcome.{Outcome, refused}
 use Rattle.sheet.specs.Accepted.{SheetHeld, on-refused, on-held}
-use Rattle.sizes.specs.Sizes.{treeBytes, workCells}
+use Rattle.sizes.specs.declared.LengthTable.{LengthTable}
+use Rattle.sizes.specs.Sizes.{lengthsOf, lengthCount, treeBytes, workCells}
+use Rattle.sizes.specs.Held.{lengthTable}
+use Rattle.sizes.specs.SizesLaws.{table-count}
 use Rattle.trees.specs.ValidTrees.{ValidTree, totalOf}
 use Rattle.trees.specs.LeastTotal.{NONE, leastTotal}
 use Rattle.pricing.specs.declared.Priced.{Priced}
@@ -28,9 +31,14 @@ use Rattle.finding.specs.Contracts.{FiguresPre}
 use Rattle.finding.specs.Outcomes.{work-short, tree-short, none-found, one-found, gives}
 use Rattle.finding.specs.FindingLaws.{tree-fits, has-tree}
 
--- what `work_cells` and `tree_bytes` tell
-abbrev CellsTold : GrammarTable → PlayingTable → ℕ → Type 0
-CellsTold g p n = (s : Sheet) → Good s → g ≡ grammarTable (s .grammar) → p ≡ playingTable (s .playing) → n ≡ workCells s
+-- what `lengths`, `work_cells_by` and `tree_bytes` tell
+abbrev LengthsTold : GrammarTable → LengthTable → Type 0
+LengthsTold g t = (h : Grammar) → GoodRules h → g ≡ grammarTable h → t ≡ lengthTable (lengthsOf (h .rules))
+
+abbrev CellsTold : GrammarTable → PlayingTable → (count n : ℕ) → Type 0
+CellsTold g p count n =
+    (s : Sheet) → Good s → g ≡ grammarTable (s .grammar) → p ≡ playingTable (s .playing)
+    → count ≡ lengthCount (s .grammar .rules) → n ≡ workCells s
 
 abbrev BytesTold : PlayingTable → ℕ → Type 0
 BytesTold p n = (s : Sheet) → p ≡ playingTable (s .playing) → n ≡ treeBytes s
@@ -40,10 +48,12 @@ pub counts : {s : Sheet} {g : GrammarTable} {p : PlayingTable} → SheetHeld s g
 unfolding grammarTable playingTable
 counts h = (rw (h .grammar) (h .good .rules .most), rw (h .playing) (h .good .onsets .most))
 
-module _ {s : Sheet} {g : GrammarTable} {p : PlayingTable} (h : SheetHeld s g p) (tree work : List ℕ) (cells : ℕ)
-    (told : CellsTold g p cells) where
+module _ {s : Sheet} {g : GrammarTable} {p : PlayingTable} (h : SheetHeld s g p) (tree work : List ℕ) (reached : LengthTable)
+    (lengths-told : LengthsTold g reached) (cells : ℕ) (cells-told : CellsTold g p (reached .count) cells) where
   required : cells ≡ workCells s
-  required = told s (h .good) (h .grammar) (h .playing)
+  required =
+      let lengths-are = lengths-told (s .grammar) (h .good .rules) (h .grammar) in
+      cells-told s (h .good) (h .grammar) (h .playing) (table-count (s .grammar .rules) reached lengths-are)
 
   pub short-work : length work < cells → (r : Priced) → r ≡ pricedOf (refused 9 0)
       → Gives (findSheet s (length tree) (length work)) tree tree work work r

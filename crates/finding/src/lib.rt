@@ -1,9 +1,11 @@
 // Finding the first least tree of the sheet that a text means.
 ghost use mathlib.Core.Path.{_≡_};
-ghost use Prim.Native.Nat.{ℕ, _≤_, _<_};
+ghost use Prim.Native.Nat.{ℕ, _<_};
 ghost use lib.ListN.{length};
 ghost use Rattle.sheet.specs.Sheet.{Sheet};
 ghost use Rattle.sheet.specs.Accepted.{SheetHeld};
+ghost use Rattle.sizes.specs.Sizes.{lengthsOf};
+ghost use Rattle.sizes.specs.Held.{lengthTable};
 ghost use Rattle.trees.specs.ValidTrees.{ruleWeight, totalOf};
 ghost use Rattle.pricing.specs.Pricing.{priced, pricedOf};
 ghost use Rattle.search.specs.Contracts.{SearchPre};
@@ -19,6 +21,7 @@ use search::least_tree;
 use sheet::GrammarTable;
 use sheet::PlayingTable;
 use sheet::Rule;
+use sizes::LengthTable;
 
 // The weight of a rule.
 fn weight_of(rule: Rule) -> u64
@@ -80,15 +83,19 @@ fn figures(grammar: GrammarTable, list: &[u8], total: u64) -> Priced
 fn find_least(
     grammar: GrammarTable,
     playing: PlayingTable,
+    reached: LengthTable,
     tree: &mut [u8],
     work: &mut [u64],
 ) -> Priced
-    requires { ⌜ ((s : Sheet) × SearchPre s grammar playing (now tree) (now work)) ⌝ }
+    requires { ⌜
+        ((s : Sheet) × SearchPre s grammar playing (now tree) (now work) × (reached ≡ lengthTable (lengthsOf (s .grammar .rules))))
+        ⌝ }
     ensures { λ r. ⌜ ((s : Sheet) → SearchPre s grammar playing (now (tree .entry)) (now (work .entry))
+        → reached ≡ lengthTable (lengthsOf (s .grammar .rules))
         → Gives (findSheet s (length (now (tree .entry))) (length (now (work .entry)))) (now (tree .entry)) (now (tree .exit))
         (now (work .entry)) (now (work .exit)) r) ⌝ }
 {
-    let found = least_tree(grammar, playing, tree, work);
+    let found = least_tree(grammar, playing, reached, tree, work);
     match found {
         Found::NoTree => refused(11, 0),
         Found::Tree { nodes, total } => figures(grammar, &tree[..nodes], total),
@@ -108,13 +115,14 @@ pub fn find_sheet(
         → Gives (findSheet s (length (now (tree .entry))) (length (now (work .entry)))) (now (tree .entry)) (now (tree .exit))
         (now (work .entry)) (now (work .exit)) r) ⌝ }
 {
-    if work.len() < sizes::work_cells(grammar, playing) {
+    let reached = sizes::lengths(grammar);
+    if work.len() < sizes::work_cells_by(grammar, playing, reached.count) {
         return refused(9, 0);
     }
     if tree.len() < sizes::tree_bytes(playing) {
         return refused(10, 0);
     }
-    find_least(grammar, playing, tree, work)
+    find_least(grammar, playing, reached, tree, work)
 }
 
 // Finds the first least tree of the sheet that a text means: its bytes go to the front of the tree slice; its node count, R, D and total

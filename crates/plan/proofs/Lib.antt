@@ -1,6 +1,8 @@
 pub mod RuleSteps
 pub mod LeafSteps
 pub mod SavedSteps
-pub mod SectionSteps
+pub mod CardSteps
+pub mod LaySteps
+pub mod PartSteps
 pub mod WaySteps
 pub mod PlanSteps

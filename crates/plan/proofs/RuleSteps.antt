@@ -8,18 +8,19 @@ use mathlib.Core.Option.{Option, none, some, Option·elim}
 use native.Mathlib.Nat.{mul-le-mul}
 use native.Mathlib.Omega.{arith}
 use lib.ListN.{length, getD}
+use Rattle.groups.specs.Groups.{noteIn}
 use Rattle.sheet.specs.declared.table.Rule as held
 use Rattle.sheet.specs.declared.table.Rule.the-variants.{Division, Leaf}
 use Rattle.sheet.specs.Sheet.{Rule, division, leaf, Sheet}
 use Rattle.trees.specs.ValidTrees.{ruleAt, weightOf, weightAt}
 use Rattle.trees.specs.Room.{good-division}
-use Rattle.expansions.specs.Tables.{unpackedOf, cellOf, PackedRules, RulesHeld}
+use Rattle.expansions.specs.Tables.{unpackedOf, cellOf, PackedRules}
 use Rattle.expansions.specs.RuleCells.{leaf≢division, leaf-rule, DivisionRule, division-rule}
 use Rattle.plan.specs.declared.Split.{Split}
-use Rattle.plan.specs.Plan.{lengths, partCell, multiplierCell, lengthsCell, Prepared}
+use Rattle.plan.specs.Plan.{lengths, partCell, orderCell, ruleIn, multiplierCell, lengthsCell, Prepared, DivisionAt}
 use Rattle.plan.specs.Plan.{arityOf, ShapeAt, Divides, PartsOf, NoDivision, SplitAt}
-use Rattle.plan.specs.Sections.{NotHead}
 use Rattle.plan.specs.PlanLaws.{part-listed}
+use Rattle.plan.specs.HeadLaws.{place-division, place-arity}
 
 -- the sheet's rule has the cell that was read
 pub cell-read : (s : Sheet) (cells : List ℕ) (r : ℕ) → PackedRules (s .grammar) cells → r < 64 → (rule x : held.Rule)
@@ -46,18 +47,6 @@ division-arity (some (division a b ks)) h w k e = cc
 -- what stands for no division
 abbrev noSplit : Split
 noSplit = record { arity = 0; part = 0 }
-
--- a rule that was read is no division of nonterminal q: it is a leaf, or has another head
-module _ (s : Sheet) (cells : List ℕ) (r q : ℕ) (rule : held.Rule) (below : r < 64) (is : rule ≡ unpackedOf (getD cells r 0))
-    (t : RulesHeld s cells) where
-  pub leaf-not-head : (h w n : ℕ) → rule ≡ Leaf h w n → NotHead s q r
-  leaf-not-head h w n e v ks o =
-      absurd (leaf≢division _ _ _ _ _ _ (sym (cell-read s cells r (t .rules) below rule _ is e) ∙ ap cellOf o))
-
-  pub other-not-head : (h w k : ℕ) → rule ≡ Division h w k → (h ≡ q → ⊥) → NotHead s q r
-  other-not-head h w k e f v ks o =
-      let same : Division h w k ≡ Division q v (length ks) = sym (cell-read s cells r (t .rules) below rule _ is e) ∙ ap cellOf o in
-      f (cc same)
 
 -- a times a weight
 pub weighted-most : (a w : ℕ) → a < 65536 → w < 65536 → a * w ≤ 4294836225
@@ -132,24 +121,62 @@ module _ (s : Sheet) (plan : List ℕ) (r : ℕ) (rule : held.Rule) (below : r <
             whole = rw (parts .into f) (parts .whole f);
           }
 
--- a length in k parts, by the index that the plan has of a part
-module _ (s : Sheet) (plan : List ℕ) (l k : ℕ) (within : l < 84) (p : Prepared s plan) where
-  pub no-part : k ≤ 8 → lengthsCell plan ≤ partCell plan l k → PartsOf s l k noSplit
-  no-part most past =
-      record {
-        idle = λ z i j. p .part l k within (omega arith) .none (omega (arith, p .lengths-are));
-        into = λ f. absurd (f refl);
-        shorter = λ f. absurd (f refl);
-        whole = λ f. absurd (f refl);
-      }
+-- ---- how a division divides a length
 
-  pub some-part : (k ≡ 0 → ⊥) → k ≤ 8 → partCell plan l k < lengthsCell plan
-      → PartsOf s l k (record { arity = k; part = partCell plan l k })
-  some-part least most less =
-      let shorter : partCell plan l k < lengths s = omega (arith, p .lengths-are) in
-      record {
-        idle = λ z. absurd (least z);
-        into = λ f. refl;
-        shorter = λ f. shorter;
-        whole = λ f. p .part l k within (omega arith) .is shorter;
-      }
+-- the rule at a place of a nonterminal's divisions, by the parts of the length
+module _ (s : Sheet) (plan : List ℕ) (l i q : ℕ) (x : Split) (p : Prepared s plan) (d : DivisionAt plan q i)
+    (within : l < lengths s) where
+  pub placed-split : PartsOf s l (noteIn (orderCell plan i)) x → SplitAt s q l (ruleIn plan i) x
+  placed-split parts = record { idle = idle; divides = divides }
+    where
+      arity : (w : ℕ) (ks : List ℕ) → ruleAt s (ruleIn plan i) ≡ some (division q w ks) → noteIn (orderCell plan i) ≡ length ks
+      arity w ks is = place-arity p (d .head) (d .begun) (d .less) ∙ ap arityOf is
+
+      idle : x .arity ≡ 0 → NoDivision s q l (ruleIn plan i)
+      idle z w ks is divided =
+          let good = good-division s (p .good) (ruleIn plan i) q w ks is in
+          let (h, less, whole) = part-listed s (p .good) (ruleIn plan i) l q w ks within is divided in
+          parts .idle z (omega (arith, good .two, arity w ks is)) (omega (arith, good .eight, arity w ks is)) h less
+          (rw (arity w ks is) whole)
+
+      divides : (x .arity ≡ 0 → ⊥) → Divides s q l (ruleIn plan i) (x .arity) (x .part)
+      divides f =
+          let (w, ks, is) = place-division p (d .head) (d .begun) (d .less) in
+          record {
+            weight = w;
+            parts = ks;
+            rule = is;
+            count = sym (arity w ks is) ∙ sym (parts .into f);
+            shorter = parts .shorter f;
+            whole = rw (parts .into f) (parts .whole f);
+          }
+
+-- a length in k parts, by the index that the plan has of a part
+module _ (s : Sheet) (plan : List ℕ) (l k : ℕ) (p : Prepared s plan) where
+  -- fewer than two parts are no division, nor are more than eight
+  pub no-arity : (2 ≤ k → k ≤ 8 → ⊥) → PartsOf s l k noSplit
+  no-arity f = record {
+    idle = λ z a b. absurd (f a b);
+    into = λ g. absurd (g refl);
+    shorter = λ g. absurd (g refl);
+    whole = λ g. absurd (g refl);
+  }
+
+  module _ (within : l < lengths s) (two : 2 ≤ k) (eight : k ≤ 8) where
+    pub no-part : lengthsCell plan ≤ partCell plan l k → PartsOf s l k noSplit
+    no-part past = record {
+      idle = λ z a b. p .part l k within two eight .none (omega (arith, p .lengths-are));
+      into = λ f. absurd (f refl);
+      shorter = λ f. absurd (f refl);
+      whole = λ f. absurd (f refl);
+    }
+
+    pub some-part : partCell plan l k < lengthsCell plan → PartsOf s l k (record { arity = k; part = partCell plan l k })
+    some-part less =
+        let shorter : partCell plan l k < lengths s = omega (arith, p .lengths-are) in
+        record {
+          idle = λ z. absurd (omega arith);
+          into = λ f. refl;
+          shorter = λ f. shorter;
+          whole = λ f. p .part l k within two eight .is shorter;
+        }

@@ -1,5 +1,6 @@
 -- Where each section of the plan begins, one behind the other. `src/layout.rt` has the same names for the sections.
 use Prim.Native.Nat.{ℕ, _+_, _*_}
+use Rattle.groups.specs.Groups.{numbersMost, firstCells}
 
 -- the token kinds that a nonterminal's leaf rules may have, and the cells of the least leaves
 abbrev pub kinds : ℕ
@@ -24,16 +25,16 @@ lengthsAt = leavesAt + leafCells
 abbrev pub partLengthsAt : ℕ
 partLengthsAt = lengthsAt + 84
 
--- the first division of each nonterminal, and one past the last
-abbrev pub firstDivisionsAt : ℕ
-firstDivisionsAt = partLengthsAt + 9 * 84
+-- the rules by head, and the first place of each group
+abbrev pub orderAt : ℕ
+orderAt = partLengthsAt + 9 * 84
 
-abbrev pub lastDivisionsAt : ℕ
-lastDivisionsAt = firstDivisionsAt + 16
+abbrev pub firstAt : ℕ
+firstAt = orderAt + numbersMost
 
 -- what each carry state saves
 abbrev pub savingsAt : ℕ
-savingsAt = lastDivisionsAt + 16
+savingsAt = firstAt + firstCells
 
 -- the multiplier, the number of nonterminals and the number of lengths
 abbrev pub multiplierAt : ℕ

@@ -1,7 +1,10 @@
 pub mod Layout
 pub mod Leaves
+pub mod Heads
+pub mod Cards
 pub mod Packed
 pub mod Ways
 pub mod Plan
 pub mod PlanLaws
+pub mod HeadLaws
 pub mod Sections

@@ -3,19 +3,22 @@
 use Prim.Native.Nat.{ℕ, _+_, _-_, _*_, _%_, _≤_, _<_}
 use mathlib.Core.Path.{_≡_}
 use mathlib.Core.List.{List, map}
-use mathlib.Core.Option.{Option, none, some}
+use mathlib.Core.Option.{some}
 use lib.ListN.{length, getD}
-use Rattle.sheet.specs.Sheet.{Rule, division, leaf, Sheet}
+use Rattle.groups.specs.Groups.{numberIn}
+use Rattle.sheet.specs.Sheet.{division, Sheet}
 use Rattle.sheet.specs.Good.{GoodRules}
 use Rattle.sheet.specs.Held.{partsOf, childCells}
 use Rattle.trees.specs.ValidTrees.{ruleAt, token}
 use Rattle.sizes.specs.Sizes.{largest, lengthsOf, lengthCount}
 use Rattle.expansions.specs.Tables.{PackedRules}
-use Rattle.plan.specs.Layout.{kinds, childrenAt, leavesAt, lengthsAt, partLengthsAt, firstDivisionsAt, lastDivisionsAt}
+use Rattle.plan.specs.Layout.{kinds, childrenAt, leavesAt, lengthsAt, partLengthsAt, orderAt, firstAt}
 use Rattle.plan.specs.Layout.{savingsAt, multiplierAt, nonterminalsAt, lengthCountAt, waysAt}
 use Rattle.plan.specs.declared.Shape.{Shape}
 use Rattle.plan.specs.declared.Split.{Split}
 unfoldable pub use Rattle.plan.specs.Leaves.{ruleCount, leafCost, leastLeaf}
+unfoldable pub use Rattle.plan.specs.Heads.{arityOf}
+use Rattle.plan.specs.Heads.{RuleGroup}
 use Rattle.plan.specs.Packed.{packedLeaf}
 use Rattle.plan.specs.Ways.{beside, oneToZero, oneToOne}
 
@@ -43,12 +46,6 @@ pub record PartLength (s : Sheet) (l k h : ℕ) : Type 0 where
   pub is : h < lengths s → lengthAt s l ≡ k * lengthAt s h
   pub none : lengths s ≤ h → (i : ℕ) → i < lengths s → lengthAt s l ≡ k * lengthAt s i → ⊥
 
--- the divisions of nonterminal q are among the rules from `from` up to, but not, `to`
-pub record DivisionsIn (s : Sheet) (q from to : ℕ) : Type 0 where
-  pub from-in : from ≤ ruleCount s
-  pub to-in : to ≤ ruleCount s
-  pub within : (r w : ℕ) (ks : List ℕ) → ruleAt s r ≡ some (division q w ks) → (from ≤ r) × (r < to)
-
 -- ---- where it stands
 
 abbrev pub childCell : List ℕ → (r j : ℕ) → ℕ
@@ -64,11 +61,29 @@ lengthCell plan l = getD plan (lengthsAt + l) 0
 abbrev pub partCell : List ℕ → (l k : ℕ) → ℕ
 partCell plan l k = getD plan (partLengthsAt + 9 * l + k) 0
 
+-- a cell of the rules by head, and the number of its rule
+abbrev pub orderCell : List ℕ → ℕ → ℕ
+orderCell plan i = getD plan (orderAt + i) 0
+
+abbrev pub ruleIn : List ℕ → ℕ → ℕ
+ruleIn plan i = numberIn (orderCell plan i)
+
+-- the first place of the group with key k
+abbrev pub placeCell : List ℕ → ℕ → ℕ
+placeCell plan k = getD plan (firstAt + k) 0
+
+-- the first place of the divisions of nonterminal q, and the place behind them, where its leaves begin
 abbrev pub firstCell : List ℕ → ℕ → ℕ
-firstCell plan q = getD plan (firstDivisionsAt + q) 0
+firstCell plan q = placeCell plan (2 * q)
 
 abbrev pub lastCell : List ℕ → ℕ → ℕ
-lastCell plan q = getD plan (lastDivisionsAt + q) 0
+lastCell plan q = placeCell plan (2 * q + 1)
+
+-- place i is one of the divisions of nonterminal q
+pub record DivisionAt (plan : List ℕ) (q i : ℕ) : Type 0 where
+  pub head : q < 16
+  pub begun : firstCell plan q ≤ i
+  pub less : i < lastCell plan q
 
 abbrev pub savedCell : List ℕ → ℕ → ℕ
 savedCell plan c = getD plan (savingsAt + c) 0
@@ -99,8 +114,9 @@ pub record Prepared (s : Sheet) (plan : List ℕ) : Type 0 where
   pub child : (r j : ℕ) → r < 64 → j < 8 → childCell plan r j ≡ getD (childCells (map partsOf (s .grammar .rules))) (8 * r + j) 0
   pub leaves : (q n : ℕ) → q < 16 → n < kinds → leafCell plan q n ≡ packedLeaf s q n
   pub length-at : (l : ℕ) → l < 84 → lengthCell plan l ≡ lengthAt s l
-  pub part : (l k : ℕ) → l < 84 → k < 9 → PartLength s l k (partCell plan l k)
-  pub divisions : (q : ℕ) → q < 16 → DivisionsIn s q (firstCell plan q) (lastCell plan q)
+  pub part : (l k : ℕ) → l < lengths s → 2 ≤ k → k ≤ 8 → PartLength s l k (partCell plan l k)
+  pub group : (k : ℕ) → k < 32 → RuleGroup s (orderCell plan) k (placeCell plan k) (placeCell plan (k + 1))
+  pub places : (k : ℕ) → k ≤ 32 → placeCell plan k ≤ ruleCount s
   pub saved-are : (c : ℕ) → c < 4 → savedCell plan c ≡ savedBy s c
   pub multiplier : multiplierCell plan ≡ s .grammar .multiplier
   pub nonterminals : nonterminalsCell plan ≡ s .grammar .nonterminals
@@ -108,12 +124,6 @@ pub record Prepared (s : Sheet) (plan : List ℕ) : Type 0 where
   pub ways : (r j q w : ℕ) (ks : List ℕ) → ruleAt s r ≡ some (division q w ks) → j < length ks → WaysOf s plan r ks j
 
 -- ---- a rule as a division
-
--- the number of its parts; 0 where it is no division
-abbrev pub arityOf : Option Rule → ℕ
-arityOf none = 0
-arityOf (some (division h w ks)) = length ks
-arityOf (some (leaf h w n)) = 0
 
 -- what `shape_at` gives
 pub record ShapeAt (s : Sheet) (r : ℕ) (x : Shape) : Type 0 where
@@ -133,7 +143,7 @@ pub record Divides (s : Sheet) (q l r arity part : ℕ) : Type 0 where
 
 -- what `split_by` gives: k parts of a length, or arity 0 where there is no such part or k is no arity
 pub record PartsOf (s : Sheet) (l k : ℕ) (x : Split) : Type 0 where
-  pub idle : x .arity ≡ 0 → 0 < k → k ≤ 8 → (i : ℕ) → i < lengths s → lengthAt s l ≡ k * lengthAt s i → ⊥
+  pub idle : x .arity ≡ 0 → 2 ≤ k → k ≤ 8 → (i : ℕ) → i < lengths s → lengthAt s l ≡ k * lengthAt s i → ⊥
   pub into : (x .arity ≡ 0 → ⊥) → x .arity ≡ k
   pub shorter : (x .arity ≡ 0 → ⊥) → x .part < lengths s
   pub whole : (x .arity ≡ 0 → ⊥) → lengthAt s l ≡ k * lengthAt s (x .part)

@@ -1,23 +1,17 @@
 -- What the other parts of a division cost as leaves, where only one part has an onset: what that part's cells are raised by to come to the
 -- cells of the whole, as the plan holds it.
-use Prim.Native.Nat.{ℕ, zero, suc, _+_, _*_, min}
-use mathlib.Core.Path.{_≡_, refl}
+use Prim.Native.Nat.{ℕ, _+_, _*_, min}
 use mathlib.Core.Bool.{cond}
 use mathlib.Core.List.{List}
-use native.Mathlib.Numerals.{add-one}
 use lib.Dec.{eqb, ltb}
 use lib.ListN.{length, getD}
+use Rattle.groups.specs.Sums.{sumTo}
 use Rattle.sheet.specs.Sheet.{Sheet}
 use Rattle.trees.specs.ValidTrees.{token, weightAt}
 use Rattle.trees.specs.LeastTotal.{NONE}
 use Rattle.plan.specs.Leaves.{leastLeaf}
 
 -- ---- what the other parts cost
-
--- the first n values of f, summed up
-unfoldable pub sumTo : (ℕ → ℕ) → ℕ → ℕ
-sumTo f zero = 0
-sumTo f (suc n) = sumTo f n + f n
 
 -- part i beside part j, with an onset before it: nothing at j, the least leaf of n placed right behind it, and of nothing elsewhere
 abbrev pub besideAt : Sheet → (kids : List ℕ) → (j n i : ℕ) → ℕ
@@ -27,10 +21,6 @@ besideAt s kids j n i = cond (eqb i j) 0 (leastLeaf s (getD kids i 0) (token (co
 unfoldable pub besideSum : Sheet → (kids : List ℕ) → (j n : ℕ) → ℕ
 unfolding sumTo
 besideSum s kids j n = sumTo (besideAt s kids j n) (length kids)
-
-pub sum-next : (f : ℕ → ℕ) (n : ℕ) → sumTo f (n + 1) ≡ sumTo f n + f n
-unfolding sumTo
-sum-next f n = rw add-one refl
 
 -- ---- packed
 

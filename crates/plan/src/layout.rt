@@ -1,4 +1,5 @@
 // Where each section of the plan begins, one behind the other. `specs/Layout` has the same names for the sections.
+use groups::FIRST_CELLS;
 use sheet::CHILD_CELLS;
 use sheet::KIND_MOST;
 use sheet::NONTERMINALS_MOST;
@@ -35,13 +36,13 @@ pub const LENGTHS_AT: usize = LEAVES_AT + LEAF_CELLS;
 // The index of each length's part, by arity.
 pub const PART_LENGTHS_AT: usize = LENGTHS_AT + LENGTHS_MOST;
 
-// The first division of each nonterminal, and one past the last.
-pub const FIRST_DIVISIONS_AT: usize = PART_LENGTHS_AT + PART_CELLS * LENGTHS_MOST;
+// The rules by head, and the first place of each group.
+pub const ORDER_AT: usize = PART_LENGTHS_AT + PART_CELLS * LENGTHS_MOST;
 
-pub const LAST_DIVISIONS_AT: usize = FIRST_DIVISIONS_AT + NONTERMINALS_MOST;
+pub const FIRST_AT: usize = ORDER_AT + RULES_MOST;
 
 // What each carry state saves.
-pub const SAVINGS_AT: usize = LAST_DIVISIONS_AT + NONTERMINALS_MOST;
+pub const SAVINGS_AT: usize = FIRST_AT + FIRST_CELLS;
 
 // The multiplier, the number of nonterminals and the number of lengths.
 pub const MULTIPLIER_AT: usize = SAVINGS_AT + CARRIES;

@@ -1,30 +1,35 @@
 // What the search looks up of a grammar, prepared once for a sheet in one flat array: a reference to a struct is not covered, and a
 // grammar by value is copied at each call. The array is read through the functions below alone.
 ghost use mathlib.Core.Path.{_≡_};
-ghost use Prim.Native.Nat.{_+_, _*_, _/_, _<_, _≤_};
+ghost use Prim.Native.Nat.{ℕ, _+_, _*_, _/_, _<_, _≤_};
 ghost use Rattle.sheet.specs.Sheet.{Sheet};
 ghost use Rattle.trees.specs.ValidTrees.{weightAt};
 ghost use Rattle.plan.specs.Layout.{kinds};
-ghost use Rattle.plan.specs.Plan.{childCell, leafCell, lengthCell, firstCell, lastCell, savedCell, wayCell};
+ghost use Rattle.plan.specs.Plan.{childCell, leafCell, lengthCell, ruleIn, firstCell, lastCell, savedCell, wayCell};
 ghost use Rattle.plan.specs.Plan.{multiplierCell, nonterminalsCell, lengthsCell};
-ghost use Rattle.plan.specs.Plan.{lengths, Prepared, ShapeAt, PartsOf, SplitAt};
+ghost use Rattle.plan.specs.Plan.{lengths, Prepared, DivisionAt, ShapeAt, PartsOf, SplitAt};
 
 mod fill;
+mod heads;
+mod lay;
 mod layout;
 mod leaves;
+mod parts;
 mod ways;
 
 use expansions::unpacked;
 pub use fill::prepare;
+pub use heads::by_parts;
+pub use lay::lay_cells;
 use layout::CHILDREN_AT;
-use layout::FIRST_DIVISIONS_AT;
+use layout::FIRST_AT;
 use layout::KINDS;
-use layout::LAST_DIVISIONS_AT;
 use layout::LEAVES_AT;
 use layout::LENGTH_COUNT_AT;
 use layout::LENGTHS_AT;
 use layout::MULTIPLIER_AT;
 use layout::NONTERMINALS_AT;
+use layout::ORDER_AT;
 use layout::PART_CELLS;
 use layout::PART_LENGTHS_AT;
 pub use layout::PLAN_CELLS;
@@ -85,20 +90,28 @@ pub fn way(plan: &Plan, r: usize, j: usize, i: usize) -> u64
     plan[WAYS_AT + WAYS * (PARTS_MOST * r + j) + i]
 }
 
-// The first rule that is a division of nonterminal q; the number of rules where there is none.
+// The first place of the divisions of nonterminal q.
 pub fn first_division(plan: &Plan, q: usize) -> usize
     requires { ⌜ q < 16 ⌝ }
     ensures { λ x. ⌜ x ≡ firstCell (now (plan .entry)) q ⌝ }
 {
-    plan[FIRST_DIVISIONS_AT + q] as usize
+    plan[FIRST_AT + 2 * q] as usize
 }
 
-// One past the last of them; 0 where there is none.
+// The place behind the last of them, where the leaves of nonterminal q begin.
 pub fn last_division(plan: &Plan, q: usize) -> usize
     requires { ⌜ q < 16 ⌝ }
     ensures { λ x. ⌜ x ≡ lastCell (now (plan .entry)) q ⌝ }
 {
-    plan[LAST_DIVISIONS_AT + q] as usize
+    plan[FIRST_AT + (2 * q + 1)] as usize
+}
+
+// The rule at a place.
+pub fn placed_rule(plan: &Plan, i: usize) -> usize
+    requires { ⌜ i < 64 ⌝ }
+    ensures { λ x. ⌜ x ≡ ruleIn (now (plan .entry)) i ⌝ }
+{
+    (plan[ORDER_AT + i] % 64) as usize
 }
 
 // The most that a leaf is cheaper with c onsets carried in than with none.
@@ -180,9 +193,9 @@ pub fn shape_at(plan: &Plan, r: usize) -> Shape
 // The length with index l in k parts; arity 0 where k is no arity or there is no such length.
 pub fn split_by(plan: &Plan, l: usize, k: usize) -> Split
     requires { ⌜ l < 84 ⌝ }
-    ensures { λ x. ⌜ (x .arity ≤ 8) × ((s : Sheet) → Prepared s (now (plan .entry)) → PartsOf s l k x) ⌝ }
+    ensures { λ x. ⌜ (x .arity ≤ 8) × ((s : Sheet) → Prepared s (now (plan .entry)) → l < lengths s → PartsOf s l k x) ⌝ }
 {
-    if k == 0 {
+    if k < 2 {
         return Split { arity: 0, part: 0 };
     }
     if 8 < k {
@@ -221,4 +234,16 @@ pub fn split_at(plan: &Plan, q: usize, l: usize, r: usize) -> Split
             n: _,
         } => Split { arity: 0, part: 0 },
     }
+}
+
+// How the rule at place i, a division, divides an interval of the length with index l.
+pub fn split_placed(plan: &Plan, l: usize, i: usize) -> Split
+    requires { ⌜ (i < 64) × (l < 84) ⌝ }
+    ensures { λ x. ⌜
+        (x .arity ≤ 8)
+        × ((s : Sheet) (q : ℕ) → Prepared s (now (plan .entry)) → DivisionAt (now (plan .entry)) q i → l < lengths s
+        → SplitAt s q l (ruleIn (now (plan .entry)) i) x)
+        ⌝ }
+{
+    split_by(plan, l, (plan[ORDER_AT + i] / 64) as usize)
 }

@@ -1,8 +1,7 @@
--- What the functions that solve rows ask of each other and tell each other: `lift` of `solve`, `part` of `lift`, `solve` of `parts`.
+-- What the functions that solve rows ask of each other and tell each other: `lift` of `solve`, `part` of `lift`. Assumes nothing.
 use Prim.Native.Nat.{ℕ, _+_, _-_, _*_, _/_, _≤_, _<_, min}
 use mathlib.Core.Path.{_≡_, refl, ap, subst, _∙_}
 use mathlib.Core.List.{List, [], _∷_}
-use native.Mathlib.Nat.{mul-le-mul-right}
 use native.Mathlib.Omega.{arith}
 use lib.ListN.{getD}
 use Rattle.sheet.specs.declared.clock.Units.{Units}
@@ -10,25 +9,24 @@ use Rattle.sheet.specs.Sheet.{Sheet}
 use Rattle.derivations.specs.Derivation.{Item}
 use Rattle.derivations.specs.Minima.{lowest, only, only-same}
 use Rattle.trees.specs.ValidTrees.{token}
-use Rattle.trees.specs.Room.{good-division}
 use Rattle.trees.specs.LeastTotal.{NONE}
 use Rattle.expansions.specs.Tables.{lastUnit}
 use Rattle.expansions.specs.Items.{firstAt, itemOf}
 use Rattle.expansions.specs.Places.{first-most}
-use Rattle.plan.specs.Plan.{lengthAt, leastLeaf, leafCell, lengthCell, firstCell, lastCell, ruleCount, DivisionsIn, Divides}
+use Rattle.plan.specs.Plan.{lengthAt, leastLeaf, leafCell, lengthCell}
 use Rattle.plan.specs.Layout.{kinds}
-use Rattle.plan.specs.PlanLaws.{lengths-most, least-leaf-most, leaf-cell-least, length-positive, token-below}
+use Rattle.plan.specs.PlanLaws.{least-leaf-most, leaf-cell-least, token-below}
 use Rattle.plan.specs.Packed.{packedLeaf, packed-leaf-most}
 use Rattle.rows.specs.declared.slots.Bar.{Bar}
 use Rattle.rows.specs.Vectors.{vec, Low, lowered, totalsOf}
 use Rattle.rows.specs.VectorLaws.{four, low-eq, only-other}
 use Rattle.rows.specs.PackedLaws.{packedCell, packedLeafTotal, packed-cell-empty}
-use Rattle.rows.specs.Slots.{itemAt, Inhabited, slotIn, Sound, SlotEntry}
-use Rattle.rows.specs.Rows.{Entry, Row, Taken, SolveEntry, PartEntry, LiftEntry, ReachedTo, MovedTo, PartsEntry, LeafEntry}
-use Rattle.rows.specs.NameLaws.{stands-near, stands-length, stands-head, stands-len, stands-next, stands-some, stands-none}
+use Rattle.rows.specs.Slots.{itemAt, Inhabited, slotIn, SlotEntry}
+use Rattle.rows.specs.Rows.{Entry, Row, Taken, SolveEntry, PartEntry, LiftEntry, ReachedTo, MovedTo, LeafEntry}
+use Rattle.rows.specs.NameLaws.{stands-near, stands-head, stands-len, stands-next, stands-some, stands-none}
 use Rattle.rows.specs.NameLaws.{slot-entry}
 use Rattle.rows.specs.IdleLaws.{taken-rest}
-use Rattle.rows.specs.TurnLaws.{taken-none, taken-more, taken-empty, Ruled, ruled-past, ruled-all}
+use Rattle.rows.specs.TurnLaws.{taken-none, taken-more, taken-empty}
 
 -- ---- `lift` calls `place_of` and `solve`
 
@@ -201,64 +199,3 @@ module _ {s : Sheet} {plan units rows : List ℕ} {bar : Bar} {q l : ℕ} {left 
 
     pub entry-solve : {at : ℕ} → PlaceOf plan bar q l from c at → SolveEntry s plan units rows bar q l left from c at
     entry-solve told = record { entry = e; inhabited = some-inside; place = told s entry-slot }
-
--- ---- `solve` calls `parts`
-
-module _ {s : Sheet} {plan units rows : List ℕ} {bar : Bar} {q l : ℕ} {left : Units} {from c at : ℕ}
-    (e : SolveEntry s plan units rows bar q l left from c at) where
-  divisions : DivisionsIn s q (firstCell plan q) (lastCell plan q)
-  divisions = e .entry .stands .in-bar .prepared .divisions q (stands-head (e .entry .stands))
-
-  -- the loop ends within the rules
-  pub last-in : {n : ℕ} → n ≡ lastCell plan q → (n ≤ ruleCount s) × (n ≤ 64)
-  last-in k =
-      let prepared = e .entry .stands .in-bar .prepared in
-      (omega (arith, k, divisions .to-in), omega (arith, k, divisions .to-in, prepared .good .most))
-
-  -- the first r rules are done, and there are so many
-  abbrev pub Done : (now : List ℕ) (r : ℕ) (o : List ℕ) → Type 0
-  Done now r o = (r ≤ ruleCount s) × Ruled s now (itemAt s q l left) c r o
-
-  -- those before the first division are idle, and those from the last on
-  pub rules-begin : {r : ℕ} {now o : List ℕ} → r ≡ firstCell plan q → Ruled s now (itemAt s q l left) c 0 o → Done now r o
-  rules-begin {r} k p = (
-    omega (arith, k, divisions .from-in),
-    ruled-past s q l left p r (omega arith) (λ i _ less w ks rule _. omega (arith, k, divisions .within i w ks rule .0)),
-  )
-
-  pub rules-end : {n r : ℕ} {now o : List ℕ} → n ≡ lastCell plan q → n ≤ r → Done now r o → Row s now (itemAt s q l left) c o
-  rules-end {r = r} k high done =
-      ruled-all (e .entry .stands .in-bar .prepared .good) (e .entry .few) refl
-      (ruled-past s q l left (done .1) (ruleCount s) (done .0)
-      (λ i least _ w ks rule _. omega (arith, k, divisions .within i w ks rule .1)))
-
-  module _ {r k h : ℕ} (d : Divides s q l r k h) where
-    pub parts-entry : {now : List ℕ} → Sound s now → PartsEntry s plan units now bar r 0 k h left from c
-    parts-entry sound = record {
-      in-bar = e .entry .stands .in-bar;
-      q = q;
-      whole = l;
-      start = left .0;
-      divides = d;
-      whole-in = e .entry .stands .length-in;
-      aligned = e .entry .stands .aligned;
-      part-in = omega arith;
-      left-is = omega arith;
-      first = e .entry .stands .first;
-      few = e .entry .few;
-      sound = sound;
-    }
-
-    -- parts are shorter: there are two or more, and an interval has a length
-    pub parts-shorter : lengthCell plan h < lengthCell plan l
-    parts-shorter =
-        let prepared = e .entry .stands .in-bar .prepared in
-        let two = good-division s (prepared .good) r q (d .weight) (d .parts) (d .rule) .two in
-        omega (
-          arith,
-          prepared .length-at h (omega (arith, d .shorter, lengths-most s)),
-          prepared .length-at l (stands-length (e .entry .stands)),
-          d .whole,
-          mul-le-mul-right {m = 2} {n = k} (lengthAt s h) (omega (arith, two, d .count)),
-          length-positive s (prepared .good) h (d .shorter),
-        )

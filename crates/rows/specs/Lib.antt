@@ -17,6 +17,7 @@ pub mod OnePartLaws
 pub mod OneTurnLaws
 pub mod LeafLaws
 pub mod CallLaws
+pub mod SolveLaws
 pub mod SavedLaws
 pub mod IdleLaws
 pub mod One

@@ -16,7 +16,8 @@ use Rattle.trees.specs.ValidTrees.{whose, isEarly, inside, early, late, onsetsB
 use Rattle.trees.specs.Instance.{onsetsIn, earlyCount, lateCount, ownDistance}
 use Rattle.trees.specs.Onsets.{onsets-add}
 use Rattle.plan.specs.Plan.{leastLeaf}
-use Rattle.plan.specs.Ways.{sumTo, besideAt, besideSum}
+use Rattle.groups.specs.Sums.{sumTo, sum-same}
+use Rattle.plan.specs.Ways.{besideAt, besideSum}
 use Rattle.expansions.specs.Tables.{lastUnit}
 use Rattle.expansions.specs.Items.{firstAt}
 use Rattle.expansions.specs.Places.{unitFrom, cell-is, inside-then, first-most, first-next}
@@ -158,11 +159,6 @@ unfolding sumTo
 sum-first f zero = omega arith
 sum-first f (suc n) = omega (arith, sum-first f n)
 
-sum-same : (f g : ℕ → ℕ) (n : ℕ) → ((i : ℕ) → f i ≡ g i) → sumTo f n ≡ sumTo g n
-unfolding sumTo
-sum-same f g zero h = refl
-sum-same f g (suc n) h = omega (arith, h n, sum-same f g n h)
-
 -- two tests that pass together
 eqb-same : (a b c d : ℕ) → (a ≡ b → c ≡ d) → (c ≡ d → a ≡ b) → eqb a b ≡ eqb c d
 eqb-same a b c d h k = elim (ℕ-discrete a b) [
@@ -184,7 +180,7 @@ module _ (s : Sheet) where
       sum-first (λ i. besideAt s (k ∷ y ∷ ys) 0 n (suc i)) (length ys)
       ∙ ap (leastLeaf s y (token n 1) +_)
       (sum-same (λ i. besideAt s (k ∷ y ∷ ys) 0 n (suc (suc i))) (λ i. leastLeaf s (getD ys i 0) (token 0 1)) (length ys)
-      (λ i. rw (ne-eqb (suc (suc i)) 0 (λ e. omega arith), ne-eqb (suc (suc i)) 1 (λ e. omega arith)))
+      (λ i _. rw (ne-eqb (suc (suc i)) 0 (λ e. omega arith), ne-eqb (suc (suc i)) 1 (λ e. omega arith)))
       ∙ leaf-sum-is ys)
 
   -- the sum by the parts before and behind
@@ -199,7 +195,7 @@ module _ (s : Sheet) where
       ∙ omega (
         arith,
         first,
-        sum-same (λ i. besideAt s (x ∷ zs) (suc j) n (suc i)) (besideAt s zs j n) (length zs) further,
+        sum-same (λ i. besideAt s (x ∷ zs) (suc j) n (suc i)) (besideAt s zs j n) (length zs) (λ i _. further i),
         beside-sum-is xs k ys n,
       )
     where

@@ -26,7 +26,8 @@ use plan::first_division;
 use plan::last_division;
 use plan::leaf_cell;
 use plan::length;
-use plan::split_at;
+use plan::placed_rule;
+use plan::split_placed;
 use plan::way;
 use sheet::Units;
 
@@ -124,11 +125,11 @@ pub fn solve_one<'a>(
     let leaf = leaf_one(plan, q, len, Units(d));
     let mut zero = leaf.zero;
     let mut one = leaf.one;
-    let mut r = first_division(plan, q);
-    while r < last {
-        let rule = r;
-        r += 1;
-        let split = split_at(plan, q, l, rule);
+    let mut n = first_division(plan, q);
+    while n < last {
+        let rule = placed_rule(plan, n);
+        let split = split_placed(plan, l, n);
+        n += 1;
         let k = split.arity;
         let h = split.part;
         if k != 0 {

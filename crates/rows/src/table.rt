@@ -33,7 +33,8 @@ use plan::first_division;
 use plan::last_division;
 use plan::leaf_cell;
 use plan::length;
-use plan::split_at;
+use plan::placed_rule;
+use plan::split_placed;
 use sheet::Units;
 
 // The row of an item from carry state c. Without an onset inside it is a leaf of what is carried in, and nothing is carried on.
@@ -93,8 +94,7 @@ fn fresh<'a>(
     solve(plan, units, rows, bar, q, l, left, from, c, at)
 }
 
-// Solves the row of an item with an onset inside, and stores it at its place. Rules before the first division of the nonterminal or behind
-// the last are not met.
+// Solves the row of an item with an onset inside, and stores it at its place. Only the divisions of its nonterminal are met.
 fn solve<'a>(
     plan: &'a Plan,
     units: &'a PackedUnits,
@@ -119,11 +119,11 @@ fn solve<'a>(
     };
     let last = last_division(plan, q);
     let mut best = leaf_row(plan, units, q, over, from, c);
-    let mut r = first_division(plan, q);
-    while r < last {
-        let rule = r;
-        r += 1;
-        let split = split_at(plan, q, l, rule);
+    let mut n = first_division(plan, q);
+    while n < last {
+        let rule = placed_rule(plan, n);
+        let split = split_placed(plan, l, n);
+        n += 1;
         let k = split.arity;
         let h = split.part;
         if k != 0 {

@@ -14,7 +14,7 @@ use Rattle.slices.specs.Over.{over}
 use Rattle.slices.specs.Filled.{Filled, filled-over}
 use Rattle.sheet.specs.declared.table.GrammarTable.{GrammarTable}
 use Rattle.sheet.specs.declared.table.PlayingTable.{PlayingTable}
-use Rattle.sheet.specs.Sheet.{Onset, Grammar, Playing, Sheet, barUnits, inBar}
+use Rattle.sheet.specs.Sheet.{Onset, Playing, Sheet, barUnits, inBar}
 use Rattle.sheet.specs.Good.{GoodRules, GoodOnsets}
 use Rattle.sheet.specs.Held.{grammarTable, playingTable}
 use Rattle.derivations.specs.Bound.{nodes-bound}
@@ -141,9 +141,6 @@ module _ {s : Sheet} {plan : List ℕ} {most : ℕ} (h : RowCellsPre s plan most
 
 module _ {s : Sheet} {grammar : GrammarTable} {playing : PlayingTable} {tree work : List ℕ}
     (h : SearchPre s grammar playing tree work) where
-  pub rules-held : (g : Grammar) × GoodRules g × (grammar ≡ grammarTable g)
-  rules-held = (s .grammar, h .held .good .rules, h .held .grammar)
-
   pub onsets-few : playing .count ≤ 512
   unfolding playingTable
   onsets-few = omega (arith, ap (λ (p : PlayingTable). p .count) (h .held .playing), h .held .good .onsets .most)

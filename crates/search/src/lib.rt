@@ -6,6 +6,8 @@ ghost use lib.ListN.{length, take};
 ghost use Rattle.slices.specs.Over.{over};
 ghost use Rattle.slices.specs.Filled.{Filled};
 ghost use Rattle.sheet.specs.Sheet.{Sheet};
+ghost use Rattle.sizes.specs.Sizes.{lengthsOf};
+ghost use Rattle.sizes.specs.Held.{lengthTable};
 ghost use Rattle.search.specs.Contracts.{ForwardPre, FoundIn, ParsePre, FoundAs, SearchPre, Searched};
 
 mod bars;
@@ -29,6 +31,7 @@ use sheet::BARS_MOST;
 use sheet::GrammarTable;
 use sheet::PlayingTable;
 use sizes::ITEM_CELLS;
+use sizes::LengthTable;
 use sizes::TREE_BYTES_MOST;
 use sizes::most_in_bar;
 
@@ -178,21 +181,25 @@ fn parse<'a>(
     }
 }
 
-// Finds the first least tree of a sheet and writes it to the front of the tree slice. The required cells of the work slice are 0 at the
-// end; what they hold at the start does not matter.
+// Finds the first least tree of a sheet, whose lengths are known, and writes it to the front of the tree slice. The required cells of the
+// work slice are 0 at the end; what they hold at the start does not matter.
 pub fn least_tree(
     grammar: GrammarTable,
     playing: PlayingTable,
+    reached: LengthTable,
     tree: &mut [u8],
     work: &mut [u64],
 ) -> Found
-    requires { ⌜ ((s : Sheet) × SearchPre s grammar playing (now tree) (now work)) ⌝ }
+    requires { ⌜
+        ((s : Sheet) × SearchPre s grammar playing (now tree) (now work) × (reached ≡ lengthTable (lengthsOf (s .grammar .rules))))
+        ⌝ }
     ensures { λ r. ⌜
         ((s : Sheet) → SearchPre s grammar playing (now (tree .entry)) (now (work .entry))
+        → reached ≡ lengthTable (lengthsOf (s .grammar .rules))
         → Searched s (now (tree .entry)) (now (tree .exit)) (now (work .entry)) (now (work .exit)) r)
         ⌝ }
 {
-    let plan = prepare(grammar);
+    let plan = prepare(grammar, reached);
     let units = pack_units(playing);
     let start = grammar.start as usize;
     let count = playing.bars as usize;

@@ -1,4 +1,4 @@
-pub mod AmongSteps
+pub mod CursorSteps
 pub mod FlagSteps
 pub mod AritySteps
 pub mod ReachedSteps

@@ -1,10 +1,10 @@
--- Laws of `collect`, which finds the lengths among divisors that fall: what it finds are lengths, each once, and every part of a length
+-- Laws of `collect`, which finds the lengths among divisors that fall: what it finds are lengths that fall, and every part of a length
 -- is found, since the length is larger and was looked at before. Assumes nothing.
 use Prim.Native.Nat.{ℕ, zero, suc, _+_, _*_, _<_, _≤_}
 use mathlib.Core.Path.{_≡_, refl, sym, subst, _∙_}
 use mathlib.Core.Bool.{Bool, true, false, _&&_, or-true, false≢true}
 use mathlib.Core.Logic.{_⊎_, inl, inr, ⊎-elim}
-use mathlib.Core.List.{List, [], _∷_, _++_}
+use mathlib.Core.List.{List, [], _∷_, _++_, append-assoc, append-nil}
 use native.Mathlib.Nat.{mul-le-mul-right}
 use native.Mathlib.Omega.{arith}
 use lib.ListN.{length, getD, length-append}
@@ -13,10 +13,10 @@ use borrow.Author.Tests.{eqb-true}
 use Rattle.slices.specs.Test.{and-both}
 use Rattle.slices.specs.Every.{Every, every-more}
 use Rattle.sheet.specs.Sheet.{Rule, barUnits}
-use Rattle.sizes.specs.Sizes.{hasArity, Length, whole, part, member, Once, someArity, reached, collect}
-use Rattle.sizes.specs.Members.{by-or, not-true-false, member-here, member-there, member-cases, no-member}
-use Rattle.sizes.specs.Members.{member-front, member-last, member-more, every-member, once-more}
-use Rattle.sizes.specs.Divisors.{Falls}
+use Rattle.sizes.specs.Sizes.{hasArity, Length, whole, part, member, someArity, reached, collect}
+use Rattle.sizes.specs.Members.{by-or, member-here, member-there, member-cases, no-member}
+use Rattle.sizes.specs.Members.{member-front, member-last, member-more, every-member}
+use Rattle.sizes.specs.Divisors.{Falls, falls-skip}
 
 module _ (f : ℕ → Bool) where
   -- a test that some arity passes
@@ -135,21 +135,14 @@ module _ (rs : List Rule) where
       (λ e. collect-lengths ds (found ++ (d ∷ [])) (every-more (Length rs) found d ev (reached-length found d ev e)))
       (λ e. collect-lengths ds found ev)
 
-  -- each is found once
-  pub collect-once : (ds found : List ℕ) → Once ds → ((x : ℕ) → member x found ≡ true → member x ds ≡ false) → Once found
-      → Once (collect rs ds found)
+  -- what is found falls, where the divisors looked at go on falling behind what was found before
+  pub collect-falls : (ds found : List ℕ) → Falls (found ++ ds) → Falls (collect rs ds found)
   unfolding collect
-  collect-once [] found o apart f = f
-  collect-once (d ∷ ds) found o apart f =
-      let behind : (x : ℕ) → member x found ≡ true → member x ds ≡ false =
-      λ x m. not-true-false _ (λ q. false≢true (sym (apart x m) ∙ member-there x d ds q)) in
-      let new : member d found ≡ false = not-true-false _ (λ m. false≢true (sym (apart d m) ∙ member-here d d ds refl)) in
-      by-reached Once d ds found
-      (λ e.
-      collect-once ds (found ++ (d ∷ [])) (o .1)
-      (λ x m. ⊎-elim (behind x) (λ q. subst (λ (y : ℕ). member y ds ≡ false) (sym q) (o .0)) (member-more x d found m))
-      (once-more found d f new))
-      (λ e. collect-once ds found (o .1) behind f)
+  collect-falls [] found f = subst Falls (append-nil found) f
+  collect-falls (d ∷ ds) found f =
+      by-reached Falls d ds found
+      (λ e. collect-falls ds (found ++ (d ∷ [])) (subst Falls (sym (append-assoc found (d ∷ []) ds)) f))
+      (λ e. collect-falls ds found (falls-skip found d ds f))
 
   -- a divisor is found where k times it is, which is larger and so was looked at before
   pub collect-part : (ds found : List ℕ) (k y : ℕ) → Falls ds → hasArity k rs ≡ true → 2 ≤ k → k ≤ 8 → 0 < y → member y ds ≡ true

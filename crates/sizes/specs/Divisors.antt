@@ -4,7 +4,7 @@ use Prim.Native.Nat.{ℕ, zero, suc, _*_, _/_, _<_, _≤_}
 use mathlib.Core.Path.{_≡_, refl, sym, ap, _∙_}
 use mathlib.Core.Bool.{Bool, true, _&&_, _||_, not}
 use mathlib.Core.Logic.{⊎-elim}
-use mathlib.Core.List.{List, [], _∷_}
+use mathlib.Core.List.{List, [], _∷_, _++_}
 use native.Mathlib.Decide.{decLt}
 use native.Mathlib.Nat.{mul-zero, mul-comm, mul-le-mul, div-eq-of-eq-mul-left, div-eq-of-eq-mul-right}
 use native.Mathlib.Omega.{arith}
@@ -13,7 +13,7 @@ use lib.Dec.{eqb, ltb}
 use borrow.Author.Tests.{eq-eqb, ltb-true}
 use Rattle.slices.specs.Test.{and-both, passes, passes-at}
 use Rattle.sizes.specs.Sizes.{member, Once, divisors}
-use Rattle.sizes.specs.Members.{not-true-false, member-cases, no-member, member-at}
+use Rattle.sizes.specs.Members.{not-true-false, member-cases, no-member, member-at, member-front, member-skip}
 
 -- where q divides 20,160, both q and the quotient are in the list
 paired : ℕ → Bool
@@ -100,3 +100,20 @@ divisor-most j h = omega (arith, falling-below 20161 divisors refl (getD divisor
 pub falls-once : (xs : List ℕ) → Falls xs → Once xs
 falls-once [] f = tt
 falls-once (x ∷ xs) f = (not-true-false _ (λ m. omega (arith, f .0 x m)), falls-once xs (f .1))
+
+-- its elements fall from place to place
+pub falls-at : (xs : List ℕ) → Falls xs → (i j : ℕ) → i < j → j < length xs → getD xs j 0 < getD xs i 0
+falls-at [] f i j l h = let g : ⊥ = omega arith in absurd g
+falls-at (x ∷ xs) f i zero l h = let g : ⊥ = omega arith in absurd g
+falls-at (x ∷ xs) f zero (suc j) l h = f .0 (getD xs j 0) (member-at xs j (omega arith))
+falls-at (x ∷ xs) f (suc i) (suc j) l h = falls-at xs (f .1) i j (omega arith) (omega arith)
+
+-- its front falls
+pub falls-front : (xs ys : List ℕ) → Falls (xs ++ ys) → Falls xs
+falls-front [] ys f = tt
+falls-front (x ∷ xs) ys f = ((λ y m. f .0 y (member-front y xs ys m)), falls-front xs ys (f .1))
+
+-- and the list without one of its elements
+pub falls-skip : (xs : List ℕ) (y : ℕ) (ys : List ℕ) → Falls (xs ++ (y ∷ ys)) → Falls (xs ++ ys)
+falls-skip [] y ys f = f .1
+falls-skip (x ∷ xs) y ys f = ((λ z m. f .0 z (member-skip z xs y ys m)), falls-skip xs y ys (f .1))

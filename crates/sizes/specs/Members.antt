@@ -70,6 +70,13 @@ member-append x (y ∷ xs) ys =
 pub member-front : (x : ℕ) (xs ys : List ℕ) → member x xs ≡ true → member x (xs ++ ys) ≡ true
 member-front x xs ys m = simp (member-append, m)
 
+-- and where one more stands in it
+pub member-skip : (x : ℕ) (xs : List ℕ) (y : ℕ) (ys : List ℕ) → member x (xs ++ ys) ≡ true
+    → member x (xs ++ (y ∷ ys)) ≡ true
+member-skip x [] y ys m = member-there x y ys m
+member-skip x (z ∷ xs) y ys m =
+    ⊎-elim (λ e. member-here x z _ e) (λ e. member-there x z _ (member-skip x xs y ys e)) (member-cases x z (xs ++ ys) m)
+
 -- the last element is in the list
 pub member-last : (x : ℕ) (xs : List ℕ) → member x (xs ++ (x ∷ [])) ≡ true
 member-last x xs = simp (member-append, member-here x x [] refl, or-true)
@@ -99,16 +106,6 @@ place-of x (y ∷ xs) m =
     ⊎-elim (λ q. (0, omega arith, sym q))
     (λ q. let p = place-of x xs q in (suc (p .0), omega (arith, p .1), p .2))
     (member-cases x y xs m)
-
--- one element more, which the list does not have
-pub once-more : (xs : List ℕ) (x : ℕ) → Once xs → member x xs ≡ false → Once (xs ++ (x ∷ []))
-once-more [] x o n = (member-none x, tt)
-once-more (y ∷ xs) x o n =
-    let new : member x xs ≡ false = not-true-false _ (λ m. false≢true (sym n ∙ member-there x y xs m)) in
-    let other : member y (xs ++ (x ∷ [])) ≡ false =
-    not-true-false _
-    (λ m. ⊎-elim (λ e. false≢true (sym (o .0) ∙ e)) (λ e. false≢true (sym n ∙ member-here x y xs (sym e))) (member-more y x xs m)) in
-    (other, once-more xs x (o .1) new)
 
 -- a list without the first place of x
 without : ℕ → List ℕ → List ℕ

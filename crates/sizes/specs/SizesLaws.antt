@@ -1,6 +1,6 @@
--- Laws of the required lengths: `lengthsOf` lists the lengths of a good grammar, there are 1 to 84, and any list of them is as long.
+-- Laws of the required lengths: `lengthsOf` lists the lengths of a good grammar, 1 to 84 that fall, and any list of them is as long.
 -- A length divides 20,160, so it is among the divisors from which the lengths are collected. Assumes nothing.
-use Prim.Native.Nat.{ℕ, zero, suc, _*_, _≤_}
+use Prim.Native.Nat.{ℕ, zero, suc, _*_, _<_, _≤_}
 use mathlib.Core.Path.{_≡_, refl, sym, ap, _∙_}
 use mathlib.Core.Bool.{true, false≢true}
 use mathlib.Core.List.{List, [], _∷_}
@@ -14,9 +14,12 @@ use Rattle.sheet.specs.Sheet.{Rule, division, leaf, Grammar, Playing, inBar}
 use Rattle.sheet.specs.Good.{GoodRule, GoodRules, GoodOnsets}
 use Rattle.sizes.specs.Sizes.{largest, mostInBar, hasArity, Length, whole, part, member, Listed, divisors, reached, collect}
 use Rattle.sizes.specs.Sizes.{lengthsOf, lengthCount}
-use Rattle.sizes.specs.Members.{by-or, member-here, no-member, every-member, once-shorter}
-use Rattle.sizes.specs.Divisors.{divides-member, positive-right, divisors-fall, divisors-first, divisors-length, falls-once}
-use Rattle.sizes.specs.Collect.{collect-keeps, collect-lengths, collect-once, collect-part, length-collect, first-collect}
+use Rattle.sizes.specs.declared.LengthTable.{LengthTable}
+use Rattle.sizes.specs.Held.{lengthTable}
+use Rattle.sizes.specs.Members.{by-or, member-here, every-member, once-shorter}
+use Rattle.sizes.specs.Divisors.{divides-member, positive-right, divisors-fall, divisors-first, divisors-length}
+use Rattle.sizes.specs.Divisors.{falls-once, falls-at}
+use Rattle.sizes.specs.Collect.{collect-keeps, collect-lengths, collect-falls, collect-part, length-collect, first-collect}
 
 -- a length divides 20,160
 pub length-divides : (rs : List Rule) (x : ℕ) → Length rs x → (q : ℕ) × (q * x ≡ 20160)
@@ -51,6 +54,11 @@ module _ (rs : List Rule) where
   unfolding lengthCount
   count-length = refl
 
+  -- so the table of lengths tells it
+  pub table-count : (t : LengthTable) → t ≡ lengthTable (lengthsOf rs) → t .count ≡ lengthCount rs
+  unfolding lengthTable
+  table-count t e = ap (λ (x : LengthTable). x .count) e ∙ sym count-length
+
   -- of a list of divisors that starts with the whole bar it is found first
   whole-collected : (ds : List ℕ) → collect rs (20160 ∷ ds) [] ≡ collect rs ds (20160 ∷ [])
   unfolding collect reached
@@ -70,6 +78,11 @@ module _ (rs : List Rule) where
   -- there are at most 84 lengths
   pub length-count-most : lengthCount rs ≤ 84
   length-count-most = rw (count-length, lengths-collected) (omega (arith, length-collect rs divisors [], divisors-length))
+
+  -- the lengths fall
+  pub lengths-fall : (i j : ℕ) → i < j → j < lengthCount rs → getD (lengthsOf rs) j 0 < getD (lengthsOf rs) i 0
+  lengths-fall =
+      rw (count-length, lengths-collected) (falls-at (collect rs divisors []) (collect-falls rs divisors [] divisors-fall))
 
   -- lists of the lengths are equally long, so that their number is well defined
   pub count-of-lengths : (xs ys : List ℕ) → Listed rs xs → Listed rs ys → length xs ≡ length ys
@@ -101,7 +114,7 @@ module _ (g : Grammar) (good : GoodRules g) where
       (record {
         each = collect-lengths rs divisors [] tt;
         all = length-found;
-        once = collect-once rs divisors [] (falls-once divisors divisors-fall) (λ x m. absurd (no-member x m)) tt;
+        once = falls-once (collect rs divisors []) (collect-falls rs divisors [] divisors-fall);
       })
 
 -- the largest is no more than a bound of all

@@ -1,14 +1,11 @@
 // The lengths of intervals that a grammar's divisions reach, and the required lengths of finding's slices.
 ghost use mathlib.Core.Path.{_≡_};
-ghost use mathlib.Core.List.{List};
-ghost use Prim.Native.Nat.{ℕ, _≤_};
-ghost use lib.ListN.{length};
-ghost use Rattle.slices.specs.Pad.{pad};
+ghost use Prim.Native.Nat.{_*_, _<_, _≤_};
 ghost use Rattle.sheet.specs.Sheet.{Grammar, Playing, Sheet};
 ghost use Rattle.sheet.specs.Held.{grammarTable, playingTable};
 ghost use Rattle.sheet.specs.Good.{GoodRules, GoodOnsets, Good};
-ghost use Rattle.sizes.specs.Sizes.{member, lengthsOf, mostInBar, treeBytes, workCells};
-ghost use Rattle.sizes.specs.Held.{arityFlags, lengthTable, ReachedOf};
+ghost use Rattle.sizes.specs.Sizes.{lengthsOf, lengthCount, mostInBar, treeBytes, workCells};
+ghost use Rattle.sizes.specs.Held.{arityFlags, lengthTable, FirstAtMost, Cursors, AmongOf, ReachedOf};
 
 mod divisors;
 
@@ -74,38 +71,65 @@ fn arities(g: GrammarTable) -> [bool; 9]
     flags
 }
 
-// Whether x is among the first `count` cells.
-fn among(cells: &LengthCells, count: usize, x: Units) -> bool
-    requires { ⌜ count ≤ 84 ⌝ }
-    ensures { λ r. ⌜ ((xs : List ℕ) → length xs ≡ count → now (cells .entry) ≡ pad 84 0 xs → r ≡ member (x .0) xs) ⌝ }
+// The first place from `from` on of the first `count` cells whose cell is at most x; `count` where there is none.
+pub fn first_at_most(cells: &LengthCells, count: usize, from: usize, x: Units) -> usize
+    requires { ⌜ (count ≤ 84) × (from ≤ count) ⌝ }
+    ensures { λ r. ⌜ FirstAtMost (now (cells .entry)) count from (x .0) r ⌝ }
 {
-    let mut i: usize = 0;
+    let mut i = from;
     while i < count {
         let y = cells[i];
+        if y <= x.0 {
+            return i;
+        }
         i += 1;
-        if x.0 == y {
+    }
+    count
+}
+
+// Whether k times d is among the first `count` cells, which fall. Every cell before at[k] is above k times d, so the search starts there;
+// at[k] moves on to the first cell that is not.
+fn is_among(cells: &LengthCells, at: &mut [usize; 9], count: usize, k: usize, d: Units) -> bool
+    requires { ⌜ (count ≤ 84) × (k < 9) × (d .0 ≤ 20160) × Cursors (now cells) count (d .0) (now at) ⌝ }
+    ensures { λ r. ⌜
+        Cursors (now (cells .entry)) count (d .0) (now (at .exit)) × AmongOf (now (cells .entry)) count (k * d .0) r
+        ⌝ }
+{
+    let x = (k as u32) * d.0;
+    let i = first_at_most(cells, count, at[k], Units(x));
+    at[k] = i;
+    if i < count {
+        let y = cells[i];
+        if y == x {
             return true;
         }
     }
     false
 }
 
-// Whether d is the whole bar, or some arity times d is among the first `count` cells.
-fn is_reached(flags: [bool; 9], cells: &LengthCells, count: usize, d: Units) -> bool
-    requires { ⌜ (count ≤ 84) × (d .0 ≤ 20160) ⌝ }
-    ensures { λ r. ⌜ ReachedOf flags (now (cells .entry)) count (d .0) r ⌝ }
+// Whether d is the whole bar, or some arity times d is among the first `count` cells. For each arity k that is looked at, at[k] moves on.
+fn is_reached(
+    flags: [bool; 9],
+    cells: &LengthCells,
+    at: &mut [usize; 9],
+    count: usize,
+    d: Units,
+) -> bool
+    requires { ⌜ (count ≤ 84) × (d .0 ≤ 20160) × Cursors (now cells) count (d .0) (now at) ⌝ }
+    ensures { λ r. ⌜
+        Cursors (now (cells .entry)) count (d .0) (now (at .exit)) × ReachedOf flags (now (cells .entry)) count (d .0) r
+        ⌝ }
 {
     if d.0 == BAR_UNITS {
         return true;
     }
-    let mut k: usize = 2;
-    let mut x = d.0;
-    while k < 9 {
+    let mut next: usize = 2;
+    while next < 9 {
+        let k = next;
         let used = flags[k];
-        x += d.0;
-        k += 1;
+        next += 1;
         if used {
-            if among(cells, count, Units(x)) {
+            if is_among(cells, at, count, k, d) {
                 return true;
             }
         }
@@ -113,19 +137,20 @@ fn is_reached(flags: [bool; 9], cells: &LengthCells, count: usize, d: Units) -> 
     false
 }
 
-// The lengths that the divisions of a grammar reach.
+// The lengths that the divisions of a grammar reach. Lengths and divisors fall, so that for each arity one pass over the lengths is enough.
 pub fn lengths(g: GrammarTable) -> LengthTable
     requires { ⌜ g .count ≤ 64 ⌝ }
     ensures { λ r. ⌜ (r .count ≤ 84) × ((h : Grammar) → GoodRules h → g ≡ grammarTable h → r ≡ lengthTable (lengthsOf (h .rules))) ⌝ }
 {
     let flags = arities(g);
+    let mut at = [0usize; 9];
     let mut cells = [0u32; LENGTHS_MOST];
     let mut count: usize = 0;
     let mut j: usize = 0;
     while j < LENGTHS_MOST {
         let d = divisor(j);
         j += 1;
-        if is_reached(flags, &cells, count, d) {
+        if is_reached(flags, &cells, &mut at, count, d) {
             cells[count] = d.0;
             count += 1;
         }
@@ -167,13 +192,24 @@ pub fn tree_bytes(p: PlayingTable) -> usize
     (p.bars as usize) + ONSET_TREE_BYTES * p.count
 }
 
+// The required length of finding's work slice, in cells, where the grammar has `count` lengths.
+pub fn work_cells_by(g: GrammarTable, p: PlayingTable, count: usize) -> usize
+    requires { ⌜ (count ≤ 84) × (p .count ≤ 512) ⌝ }
+    ensures { λ r. ⌜
+        ((s : Sheet) → Good s → g ≡ grammarTable (s .grammar) → p ≡ playingTable (s .playing)
+        → count ≡ lengthCount (s .grammar .rules) → r ≡ workCells s)
+        ⌝ }
+{
+    let most = most_in_bar(p);
+    let rows = (g.nonterminals as usize) * count;
+    ITEM_CELLS * (rows * most + (p.bars as usize))
+}
+
 // The required length of finding's work slice, in cells.
 pub fn work_cells(g: GrammarTable, p: PlayingTable) -> usize
     requires { ⌜ (g .count ≤ 64) × (p .count ≤ 512) ⌝ }
     ensures { λ r. ⌜ ((s : Sheet) → Good s → g ≡ grammarTable (s .grammar) → p ≡ playingTable (s .playing) → r ≡ workCells s) ⌝ }
 {
     let reached = lengths(g);
-    let most = most_in_bar(p);
-    let rows = (g.nonterminals as usize) * reached.count;
-    ITEM_CELLS * (rows * most + (p.bars as usize))
+    work_cells_by(g, p, reached.count)
 }

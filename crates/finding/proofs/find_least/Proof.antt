@@ -23,33 +23,33 @@ slice-reshare-prefix-figures c =
     let at-found = c .before in
     let at-least-tree = at-found .before .before .before .before .before .before in
     let at-start = at-least-tree .before .before .before .before .before in
-    let (s, entry) = at-start .pre in
+    let (s, entry, lengths) = at-start .pre in
     nodes-fit entry _ _ _ _
     (subst (Searched s (at-start .args .tree .now) _ (at-start .args .work .now) _) (at-found .found .given .1)
-    (at-least-tree .least-tree .ensures s entry))
+    (at-least-tree .least-tree .ensures s entry lengths))
 
 slice-aggregate-figures : tie.Need-slice-aggregate-figures
 slice-aggregate-figures c =
     let at-found = c .before .before in
     let at-least-tree = at-found .before .before .before .before .before .before in
     let at-start = at-least-tree .before .before .before .before .before in
-    let (s, entry) = at-start .pre in
+    let (s, entry, lengths) = at-start .pre in
     front-size entry _ _ _ _
     (subst (Searched s (at-start .args .tree .now) _ (at-start .args .work .now) _) (at-found .found .given .1)
-    (at-least-tree .least-tree .ensures s entry))
+    (at-least-tree .least-tree .ensures s entry lengths))
 
 figures-requires : tie.Need-figures-requires
 figures-requires c κs =
     let at-found = c .before .before in
     let at-least-tree = at-found .before .before .before .before .before .before in
     let at-start = at-least-tree .before .before .before .before .before in
-    let (s, entry) = at-start .pre in (
+    let (s, entry, lengths) = at-start .pre in (
       s,
       _,
       _,
       figures-pre entry _ _ _ _
           (subst (Searched s (at-start .args .tree .now) _ (at-start .args .work .now) _) (at-found .found .given .1)
-          (at-least-tree .least-tree .ensures s entry)),
+          (at-least-tree .least-tree .ensures s entry lengths)),
     )
 
 same-length : tie.Need-same-length
@@ -63,9 +63,9 @@ returns c =
     let at-enum-told = c .before in
     let at-least-tree = at-enum-told .before .before .before .before .before .before in
     let at-start = at-least-tree .before .before .before .before .before in
-    λ s entry. nothing-found entry _ _
+    λ s entry lengths. nothing-found entry _ _
     (subst (Searched s (at-start .args .tree .now) _ (at-start .args .work .now) _) (at-enum-told .enum-told .given .1)
-    (at-least-tree .least-tree .ensures s entry)) _
+    (at-least-tree .least-tree .ensures s entry lengths)) _
     (c .refused .ensures)
 
 same-length-3 : tie.Need-same-length-3
@@ -79,9 +79,9 @@ returns-2 c =
     let at-found = c .before .before .before in
     let at-least-tree = at-found .before .before .before .before .before .before in
     let at-start = at-least-tree .before .before .before .before .before in
-    λ s entry.
+    λ s entry lengths.
     let told = subst (Searched s (at-start .args .tree .now) _ (at-start .args .work .now) _) (at-found .found .given .1)
-    (at-least-tree .least-tree .ensures s entry) in
+    (at-least-tree .least-tree .ensures s entry lengths) in
     tree-found entry _ _ _ _ told _ (c .figures .ensures s _ _ (figures-pre entry _ _ _ _ told))
 
 pub find-least-spec : {M : Type 1} → statement M

@@ -48,9 +48,9 @@ returns-2 c =
     let rule = c .before .before .before .rule in
     let split-by = c .split-by in (
       split-by .ensures .0,
-      λ s p.
+      λ s p within.
           same-head s _ (start .args .r) _ (start .pre .0) (unpacked .ensures) p _ _ _ (start .args .q) (start .args .l) (split-by .result)
-          (rule .given .1) (c .before .if1 .left) (split-by .ensures .1 s p),
+          (rule .given .1) (c .before .if1 .left) (split-by .ensures .1 s p within) within,
     )
 
 returns-3 : tie.Need-returns-3

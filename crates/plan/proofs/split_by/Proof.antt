@@ -1,15 +1,19 @@
 -- `split_by` meets its contract: the plan has the index of the part, or one past the lengths. Assumes nothing.
 use native.Mathlib.Omega.{arith}
-use Rattle.plan.proofs.RuleSteps.{no-part, some-part}
+use Rattle.plan.proofs.RuleSteps.{no-arity, no-part, some-part}
 use borrow.Author.Needs.{needs}
 use Rattle.plan.proofs.split_by.Statement.{statement}
 use Rattle.plan.proofs.split_by.Tie as tie
 
 returns : tie.Need-returns
-returns c = search needs
+returns c =
+    let start = c .before in
+    (omega arith, λ s p _. no-arity s _ (start .args .l) (start .args .k) p (λ a b. omega (arith, c .if1 .taken)))
 
 returns-2 : tie.Need-returns-2
-returns-2 c = search needs
+returns-2 c =
+    let start = c .before .before in
+    (omega arith, λ s p _. no-arity s _ (start .args .l) (start .args .k) p (λ a b. omega (arith, c .if2 .taken)))
 
 mul-part : tie.Need-mul-part
 mul-part c = search needs
@@ -31,18 +35,24 @@ element-copy-out-if3 c = search needs
 
 returns-3 : tie.Need-returns-3
 returns-3 c =
-    let start = c .before .before .before .before .before in
-    let if2 = c .before .before .before .if2 in
-    (omega arith, λ s p. no-part s _ (start .args .l) (start .args .k) (start .pre) p (omega (arith, if2 .left)) (c .if3 .taken))
+    let at-if2 = c .before .before .before in
+    let start = at-if2 .before .before in (
+      omega arith,
+      λ s p within.
+          no-part s _ (start .args .l) (start .args .k) p within (omega (arith, at-if2 .before .if1 .left)) (omega
+          (arith, at-if2 .if2 .left))
+          (c .if3 .taken),
+    )
 
 returns-4 : tie.Need-returns-4
 returns-4 c =
-    let start = c .before .before .before .before .before in
-    let if1 = c .before .before .before .before .if1 in
-    let if2 = c .before .before .before .if2 in
+    let at-if2 = c .before .before .before in
+    let start = at-if2 .before .before in
     let less = c .if3 .left in (
-      omega (arith, if2 .left),
-      λ s p. some-part s _ (start .args .l) (start .args .k) (start .pre) p (if1 .left) (omega (arith, if2 .left)) (omega (arith, less)),
+      omega (arith, at-if2 .if2 .left),
+      λ s p within.
+          some-part s _ (start .args .l) (start .args .k) p within (omega (arith, at-if2 .before .if1 .left))
+          (omega (arith, at-if2 .if2 .left)) (omega (arith, less)),
     )
 
 pub split-by-spec : {M : Type 1} → statement M

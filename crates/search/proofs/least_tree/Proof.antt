@@ -8,15 +8,22 @@ use borrow.Author.Needs.{needs}
 use lib.ListN.{length, take}
 use lib.Seq.{length-take-le}
 use Rattle.sheet.specs.Sheet.{Sheet}
+use Rattle.sizes.specs.Sizes.{lengthsOf}
+use Rattle.sizes.specs.Held.{lengthTable}
 use Rattle.search.specs.Contracts.{rowCells, RowCellsPre, ParsePre, SearchPre}
-use Rattle.search.proofs.SearchSteps.{rules-held, onsets-few, cells-few, cells-fit, cells-all, bars-are, parse-entry, lent-length}
-use Rattle.search.proofs.SearchSteps.{searched}
+use Rattle.search.proofs.SearchSteps.{onsets-few, cells-few, cells-fit, cells-all, bars-are, parse-entry, lent-length, searched}
 use Rattle.search.proofs.least_tree.Statement.{statement}
 use Rattle.search.proofs.least_tree.Tie as tie
 
--- a sheet of which the first least tree is asked for
+-- a sheet of which the first least tree is asked for, and its lengths
 abbrev Asked : tie.Start → Sheet → Type 0
-Asked c s = let a = c .args in SearchPre s (a .grammar) (a .playing) (a .tree .now) (a .work .now)
+Asked c s =
+    let a = c .args in
+    SearchPre s (a .grammar) (a .playing) (a .tree .now) (a .work .now) × (a .reached ≡ lengthTable (lengthsOf (s .grammar .rules)))
+
+-- that of the contract
+asked : (c : tie.Start) → Asked c (c .pre .0)
+asked c = (c .pre .1, c .pre .2)
 
 -- ---- where the onsets of the fullest bar are counted
 
@@ -29,8 +36,8 @@ start-of c = units-place c .before .before .before .before
 -- the cells of the rows may be counted
 counted : (c : tie.After-most-in-bar) (s : Sheet) → Asked (start-of c) s
     → RowCellsPre s (units-place c .before .prepare .result) (c .most-in-bar .result)
-counted c s h = record {
-  prepared = units-place c .before .prepare .ensures s (h .held .good .rules) (h .held .grammar);
+counted c s (h, lengths) = record {
+  prepared = units-place c .before .prepare .ensures s (h .held .good .rules) (h .held .grammar) lengths;
   onsets = h .held .good .onsets;
   most-is = c .most-in-bar .ensures .1 (s .playing) (h .held .good .onsets) (h .held .playing);
 }
@@ -51,7 +58,7 @@ cells-are : (c : tie.After-row-cells) (s : Sheet) → Asked (start-place c) s �
 cells-are c s h = c .row-cells .ensures s (counted (c .before) s h)
 
 fit : (c : tie.After-row-cells) (s : Sheet) → Asked (start-place c) s → cells-of c ≤ length (work-of c)
-fit c s h = cells-fit h (cells-are c s h)
+fit c s h = cells-fit (h .0) (cells-are c s h)
 
 -- so the tree may be searched in them
 entry : (c : tie.After-row-cells) (s : Sheet) → Asked (start-place c) s → let at-units = units-place (c .before) in
@@ -59,8 +66,9 @@ entry : (c : tie.After-row-cells) (s : Sheet) → Asked (start-place c) s → le
     ParsePre s (at-units .before .prepare .result) (at-units .pack-units .result) (take (cells-of c) (work-of c)) (a .tree .now)
     (a .grammar .start) (a .playing .bars)
 entry c s h =
-    let units = units-place (c .before) .pack-units .ensures (s .playing) (h .held .good .onsets) (h .held .playing) in
-    parse-entry h _ _ (cells-of c) _ _ (counted (c .before) s h .prepared) units (cells-are c s h) (fit c s h) refl refl
+    let held = h .0 .held in
+    let units = units-place (c .before) .pack-units .ensures (s .playing) (held .good .onsets) (held .playing) in
+    parse-entry (h .0) _ _ (cells-of c) _ _ (counted (c .before) s h .prepared) units (cells-are c s h) (fit c s h) refl refl
 
 -- ---- where the rows come back
 
@@ -70,7 +78,9 @@ cells-place c = c .before .before .before .before .before
 -- ---- the needs
 
 prepare-requires : tie.Need-prepare-requires
-prepare-requires c κs = rules-held (c .before .before .pre .1)
+prepare-requires c κs =
+    let (s, h, lengths) = c .before .before .pre in
+    (s .grammar, h .held .good .rules, h .held .grammar, lengths)
 
 pack-units-requires : tie.Need-pack-units-requires
 pack-units-requires c κs = onsets-few (c .before .before .before .pre .1)
@@ -89,24 +99,24 @@ most-in-bar-requires c κs =
 row-cells-requires : tie.Need-row-cells-requires
 row-cells-requires c κs =
     let at-start = start-of c in
-    (at-start .pre .0, counted c _ (at-start .pre .1))
+    (at-start .pre .0, counted c _ (asked at-start))
 
 -- the front of the work slice is lent
 slice-relend-prefix-parse : tie.Need-slice-relend-prefix-parse
 slice-relend-prefix-parse c =
     let at-cells = c .before .before in
-    fit at-cells _ (start-place at-cells .pre .1)
+    fit at-cells _ (asked (start-place at-cells))
 
 slice-aggregate-parse : tie.Need-slice-aggregate-parse
 slice-aggregate-parse c =
     let at-cells = c .before .before .before in
-    sym (length-take-le (cells-of at-cells) (work-of at-cells) (fit at-cells _ (start-place at-cells .pre .1)))
+    sym (length-take-le (cells-of at-cells) (work-of at-cells) (fit at-cells _ (asked (start-place at-cells))))
 
 parse-requires : tie.Need-parse-requires
 parse-requires c κs =
     let at-cells = c .before .before .before .before in
     let at-start = start-place at-cells in
-    (at-start .pre .0, entry at-cells _ (at-start .pre .1))
+    (at-start .pre .0, entry at-cells _ (asked at-start))
 
 mul-clear : tie.Need-mul-clear
 mul-clear c = search needs
@@ -115,17 +125,22 @@ add-clear : tie.Need-add-clear
 add-clear c =
     let at-parse = c .before .before .before .before .before in
     let at-cells = cells-place at-parse in
-    let h = start-place at-cells .pre .1 in
-    record { fits = omega (arith, cells-are at-cells _ h, cells-few h, bars-are h, h .held .good .onsets .sixty-four) }
+    let at-start = start-place at-cells in
+    let h = at-start .pre .1 in
+    record {
+      fits = omega (arith, cells-are at-cells _ (asked at-start), cells-few h, bars-are h, h .held .good .onsets .sixty-four);
+    }
 
 -- the work slice comes back as long as it was
 clear-requires : tie.Need-clear-requires
 clear-requires c κs =
     let at-parse = c .before .before .before .before .before in
     let at-cells = cells-place at-parse in
-    let h = start-place at-cells .pre .1 in
-    let same = lent-length h (at-parse .parse .last .1 .1 .0) (cells-of at-cells) (at-parse .parse .kept .1 .1 .0) (fit at-cells _ h) in
-    omega (arith, same, cells-all h (cells-are at-cells _ h), h .work-size)
+    let at-start = start-place at-cells in
+    let h = at-start .pre .1 in
+    let enough = fit at-cells _ (asked at-start) in
+    let same = lent-length h (at-parse .parse .last .1 .1 .0) (cells-of at-cells) (at-parse .parse .kept .1 .1 .0) enough in
+    omega (arith, same, cells-all h (cells-are at-cells _ (asked at-start)), h .work-size)
 
 same-length : tie.Need-same-length
 same-length c = search needs
@@ -140,8 +155,10 @@ returns c =
     let at-cells = cells-place at-parse in
     let cells = cells-of at-cells in
     let rows = at-parse .parse .last .1 .1 .0 in
-    λ s h. searched h _ rows _ cells (cells + 16 * start-place at-cells .args .playing .bars) _ (at-parse .parse .ensures s
-    (entry at-cells s h)) (fit at-cells s h) (at-parse .parse .kept .1 .1 .0) (omega arith) (cells-all h (cells-are at-cells s h))
+    λ s h lengths.
+    searched h _ rows _ cells (cells + 16 * start-place at-cells .args .playing .bars) _
+    (at-parse .parse .ensures s (entry at-cells s (h, lengths))) (fit at-cells s (h, lengths)) (at-parse .parse .kept .1 .1 .0)
+    (omega arith) (cells-all h (cells-are at-cells s (h, lengths)))
     (at-clear .clear .ensures)
 
 pub least-tree-spec : {M : Type 1} → statement M

@@ -1,25 +1,27 @@
 -- `sizes::lengths` meets its contract. The loop's invariant: of any grammar with these flags, the lengths among the first `j` divisors
--- are the first `count` cells, and the whole list is theirs with what the other divisors add. The measure is what is left of the
--- divisors. Assumes nothing.
+-- are the first `count` cells, and the whole list is theirs with what the other divisors add; every cell before the cursor of an arity
+-- is above that arity times each other divisor. The measure is what is left of the divisors. Assumes nothing.
 use Prim.Native.Nat.{_-_, _≤_}
 use native.Mathlib.Omega.{arith}
 use borrow.Author.Needs.{needs}
 use Rattle.sizes.specs.Divisors.{divisor-most}
+use Rattle.sizes.proofs.CursorSteps.{CursorsFrom, cursors-first, cursors-more, cursors-later}
 use Rattle.sizes.proofs.LengthSteps.{CollectedOf, collected-none, collected-in, collected-out, collected-all}
 use Rattle.sizes.proofs.lengths.Statement.{statement}
 use Rattle.sizes.proofs.lengths.Tie as tie
 
 abbrev Inv-loop : tie.InvT-loop
-Inv-loop flags cells₀ count₀ j₀ cells count j = (j ≤ 84) × (count ≤ j) × CollectedOf flags cells count j
+Inv-loop flags at₀ cells₀ count₀ j₀ at cells count j =
+    (j ≤ 84) × (count ≤ j) × CollectedOf flags cells count j × CursorsFrom cells count at j
 
 abbrev μ-loop : tie.MeasureT-loop
-μ-loop flags cells₀ count₀ j₀ cells count j = 84 - j
+μ-loop flags at₀ cells₀ count₀ j₀ at cells count j = 84 - j
 
 arities-requires : tie.Need-arities-requires Inv-loop μ-loop
 arities-requires c κs = search needs
 
 loop-holds : tie.Need-loop-holds Inv-loop μ-loop
-loop-holds c = (search needs, search needs, collected-none _)
+loop-holds c = (search needs, search needs, collected-none _, λ i d h l e. cursors-first _ d)
 
 divisor-requires : tie.Need-divisor-requires Inv-loop μ-loop
 divisor-requires c κs = search needs
@@ -29,9 +31,12 @@ add-j c = search needs
 
 is-reached-requires : tie.Need-is-reached-requires Inv-loop μ-loop
 is-reached-requires c κs =
-    let d = c .before in
-    let l = d .before .before in
-    (search needs, omega (arith, divisor-most (l .loop .j) (omega arith), d .divisor .ensures))
+    let d = c .before .before in
+    let l = d .before .before in (
+      search needs,
+      omega (arith, divisor-most (l .loop .j) (omega arith), d .divisor .ensures),
+      l .loop .inv .3 (l .loop .j) _ (omega arith) (omega arith) (d .divisor .ensures),
+    )
 
 mul-cells : tie.Need-mul-cells Inv-loop μ-loop
 mul-cells c = search needs
@@ -48,11 +53,13 @@ loop-less c = search needs
 loop-again : tie.Need-loop-again Inv-loop μ-loop
 loop-again c =
     let r = c .before in
-    let d = r .before .before in
-    let l = d .before .before in (
+    let d = r .before .before .before in
+    let l = d .before .before in
+    let told = r .is-reached .ensures in (
       search needs,
       search needs,
-      collected-in _ _ _ _ (l .loop .inv .2) (omega arith) _ (d .divisor .ensures) _ (r .is-reached .ensures) (c .if1 .taken) (omega arith),
+      collected-in _ _ _ _ (l .loop .inv .2) (omega arith) _ (d .divisor .ensures) _ (told .1) (c .if1 .taken) (omega arith),
+      cursors-later _ _ _ _ (cursors-more _ _ _ _ (told .0) _) (l .loop .j) (d .divisor .ensures),
     )
 
 loop-less-2 : tie.Need-loop-less-2 Inv-loop μ-loop
@@ -61,11 +68,13 @@ loop-less-2 c = search needs
 loop-again-2 : tie.Need-loop-again-2 Inv-loop μ-loop
 loop-again-2 c =
     let r = c .before in
-    let d = r .before .before in
-    let l = d .before .before in (
+    let d = r .before .before .before in
+    let l = d .before .before in
+    let told = r .is-reached .ensures in (
       search needs,
       search needs,
-      collected-out _ _ _ _ (l .loop .inv .2) (omega arith) _ (d .divisor .ensures) _ (r .is-reached .ensures) (c .if1 .left),
+      collected-out _ _ _ _ (l .loop .inv .2) (omega arith) _ (d .divisor .ensures) _ (told .1) (c .if1 .left),
+      cursors-later _ _ _ _ (told .0) (l .loop .j) (d .divisor .ensures),
     )
 
 returns : tie.Need-returns Inv-loop μ-loop

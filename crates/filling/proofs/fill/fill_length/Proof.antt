@@ -39,7 +39,7 @@ length-requires c κs =
     let split-by = c .before .before .split-by in
     let if1 = c .if1 in
     let e = start .pre .1 in
-    let told = split-by .ensures .1 _ (e .in-bar .prepared) in
+    let told = split-by .ensures .1 _ (e .in-bar .prepared) (e .lone .length-in) in
     (part-length e (loop .inv .0) (omega (arith, loop-test .taken)) told (if1 .taken), (start .pre .0, e .in-bar .prepared))
 
 div-j : tie.Need-div-j Inv-loop μ-loop
@@ -51,7 +51,7 @@ div-j c =
     let if1 = c .before .before .before .if1 in
     let length = c .before .before .length in
     let e = start .pre .1 in
-    let told = split-by .ensures .1 _ (e .in-bar .prepared) in
+    let told = split-by .ensures .1 _ (e .in-bar .prepared) (e .lone .length-in) in
     omega (arith, part-positive e (loop .inv .0) (omega (arith, loop-test .taken)) told (if1 .taken) (length .ensures) refl)
 
 cast-j : tie.Need-cast-j Inv-loop μ-loop
@@ -63,7 +63,7 @@ cast-j c =
     let if1 = c .before .before .before .if1 in
     let length = c .before .before .length in
     let e = start .pre .1 in
-    let told = split-by .ensures .1 _ (e .in-bar .prepared) in
+    let told = split-by .ensures .1 _ (e .in-bar .prepared) (e .lone .length-in) in
     omega (arith, part-few e (loop .inv .0) (omega (arith, loop-test .taken)) told (if1 .taken) (length .ensures) refl)
 
 fill-arity-requires : tie.Need-fill-arity-requires Inv-loop μ-loop
@@ -75,7 +75,7 @@ fill-arity-requires c κs =
     let if1 = c .before .before .before .before .if1 in
     let length = c .before .before .before .length in
     let e = start .pre .1 in
-    let told = split-by .ensures .1 _ (e .in-bar .prepared) in
+    let told = split-by .ensures .1 _ (e .in-bar .prepared) (e .lone .length-in) in
     let asked = arity-asked e (loop .inv .0) (omega (arith, loop-test .taken)) told (if1 .taken) (length .ensures) refl in
     (start .pre .0, asked (loop .inv .2 _ e))
 
@@ -93,7 +93,7 @@ loop-again c =
       omega (arith, loop .inv .0),
       omega (arith, loop-test .taken),
       λ s e.
-          let told = split-by .ensures .1 s (e .in-bar .prepared) in
+          let told = split-by .ensures .1 s (e .in-bar .prepared) (e .lone .length-in) in
           let eight : loop .k ≤ 8 = omega (arith, loop-test .taken) in
           let b = loop .inv .2 s e in
           arity-told e (loop .inv .0) eight told (if1 .taken) (length .ensures) refl b
@@ -112,7 +112,7 @@ loop-again-2 c =
       omega (arith, loop .inv .0),
       omega (arith, loop-test .taken),
       λ s e.
-          let told = split-by .ensures .1 s (e .in-bar .prepared) in
+          let told = split-by .ensures .1 s (e .in-bar .prepared) (e .lone .length-in) in
           length-idle e (loop .inv .0) (omega (arith, loop-test .taken)) told (if1 .left) (loop .inv .2 s e),
     )
 

@@ -1,15 +1,14 @@
--- `solve_one`: the invariant of the loop is that there are r rules or more, that `zero` and `one` are cells 0 and 1 of the lesser of what
--- is packed of a leaf and of those of the first r rules that are divisions (`Ruled`), and that the table is sound.
-use Prim.Native.Nat.{ℕ, _-_, _≤_}
+-- `solve_one`: the invariant of the loop is that `zero` and `one` are cells 0 and 1 of the lesser of what is packed of a leaf and of the
+-- divisions before place n, which are those of the first r rules (`Done`), and that the table is sound.
+use Prim.Native.Nat.{ℕ, _-_}
 use mathlib.Core.Path.{refl, sym, _∙_}
 use native.Mathlib.Omega.{arith}
 use borrow.Author.Needs.{needs}
 use Rattle.sheet.specs.Sheet.{Sheet}
-use Rattle.plan.specs.Plan.{ruleCount}
-use Rattle.rows.specs.Slots.{itemAt}
 use Rattle.rows.specs.NameLaws.{stands-bar, stands-length, stands-head, solve-room, solve-stored}
-use Rattle.rows.specs.TurnLaws.{Ruled, ruled-low, ruled-idle}
-use Rattle.rows.specs.CallLaws.{last-in, rules-begin, rules-end, parts-shorter}
+use Rattle.rows.specs.TurnLaws.{ruled-low, ruled-idle}
+use Rattle.rows.specs.SolveLaws.{Done, last-in, place-in, division-at, split-told, rules-begin, rules-here, rules-next, rules-end}
+use Rattle.rows.specs.SolveLaws.{parts-shorter}
 use Rattle.rows.specs.One.{pairRow, OneEntry}
 use Rattle.rows.specs.OneCallLaws.{one-place, one-behind, leaf-one-asked, leaf-one-told, rule-asked}
 use Rattle.rows.proofs.one.rule_one.Reads as rule-one
@@ -18,18 +17,19 @@ use Rattle.rows.proofs.one.+part_one+rule_one+solve_one.Lts-solve_one a
 use Rattle.plan.proofs.first_division.Reads as first-division-reads
 use Rattle.plan.proofs.last_division.Reads as last-division-reads
 use Rattle.plan.proofs.length.Reads as length-reads
-use Rattle.plan.proofs.split_at.Reads as split-at-reads
+use Rattle.plan.proofs.placed_rule.Reads as placed-rule-reads
+use Rattle.plan.proofs.split_placed.Reads as split-placed-reads
 use Rattle.rows.proofs.one.leaf_one.Reads as leaf-one-reads
 use Rattle.rows.proofs.slots.store.Reads as store-reads
 use Rattle.rows.proofs.one.+part_one+rule_one+solve_one.Proof.Measures.{rule-one-below, solve-one-at}
 
 abbrev pub Inv-loop : solve-one-lts.InvT-loop
-Inv-loop plan us rows₀ bar q l left from at d last zero₀ one₀ r₀ rows zero one r =
-    (s : Sheet) → OneEntry s plan us rows₀ bar q l left from at
-    → (r ≤ ruleCount s) × Ruled s rows (itemAt s q l left) 0 r (pairRow (record { zero = zero; one = one }))
+Inv-loop plan us rows₀ bar q l left from at d last zero₀ one₀ n₀ rows zero one n =
+    (s : Sheet) (e : OneEntry s plan us rows₀ bar q l left from at)
+    → Done (e .entry) rows n (pairRow (record { zero = zero; one = one }))
 
 abbrev pub μ-loop : solve-one-lts.MeasureT-loop
-μ-loop plan us rows₀ bar q l left from at d last zero₀ one₀ r₀ rows zero one r = last - r
+μ-loop plan us rows₀ bar q l left from at d last zero₀ one₀ n₀ rows zero one n = last - n
 
 module _ (t : ℕ) where
   -- the readings of the callees of `solve_one`
@@ -43,8 +43,10 @@ module _ (t : ℕ) where
     leaf-one-reads.Learnt,
     first-division-reads.Asked,
     first-division-reads.Learnt,
-    split-at-reads.Asked,
-    split-at-reads.Learnt,
+    placed-rule-reads.Asked,
+    placed-rule-reads.Learnt,
+    split-placed-reads.Asked,
+    split-placed-reads.Learnt,
     rule-one-below t,
     rule-one.Post,
     store-reads.Asked,
@@ -85,31 +87,48 @@ module _ (t : ℕ) where
       let first-division = c .first-division in
       λ s e. rules-begin (e .entry) (first-division .ensures) (leaf-one-told e (length .ensures) refl (leaf-one .ensures))
 
-  pub add-r : solve-one-lts.Need-add-r calls (solve-one-at t) solve-one.Post Inv-loop μ-loop
-  add-r c =
-      let start = c .before .before .before .before .before .before .before .before .before in
-      let last-division = c .before .before .before .before .last-division in
-      let last = last-in (start .pre .1 .1 .entry) (last-division .ensures) in
-      omega (arith, c .loop-test .taken, last .1)
+  pub placed-rule-requires : solve-one-lts.Need-placed-rule-requires calls (solve-one-at t) solve-one.Post Inv-loop μ-loop
+  placed-rule-requires c κs =
+      let at-loop = c .before in
+      let at-last-division = at-loop .before .before .before in
+      let e = at-last-division .before .before .before .before .before .pre .1 .1 in
+      place-in (e .entry) (at-loop .loop .inv _ e) (at-last-division .last-division .ensures) (c .loop-test .taken)
 
-  pub split-at-requires : solve-one-lts.Need-split-at-requires calls (solve-one-at t) solve-one.Post Inv-loop μ-loop
-  split-at-requires c κs =
-      let start = c .before .before .before .before .before .before .before .before .before in
-      let last-division = c .before .before .before .before .last-division in
-      let e = start .pre .1 .1 .entry in
-      (omega (arith, c .loop-test .taken, last-in e (last-division .ensures) .1), stands-length (e .entry .stands))
+  pub split-placed-requires : solve-one-lts.Need-split-placed-requires calls (solve-one-at t) solve-one.Post Inv-loop μ-loop
+  split-placed-requires c κs =
+      let at-loop = c .before .before in
+      let at-last-division = at-loop .before .before .before in
+      let e = at-last-division .before .before .before .before .before .pre .1 .1 in
+      let less = c .before .loop-test .taken in (
+        place-in (e .entry) (at-loop .loop .inv _ e) (at-last-division .last-division .ensures) less,
+        stands-length (e .entry .entry .stands),
+      )
+
+  pub add-n : solve-one-lts.Need-add-n calls (solve-one-at t) solve-one.Post Inv-loop μ-loop
+  add-n c =
+      let at-loop = c .before .before .before in
+      let at-last-division = at-loop .before .before .before in
+      let e = at-last-division .before .before .before .before .before .pre .1 .1 in
+      omega (arith, c .before .before .loop-test .taken, last-in (e .entry) (at-last-division .last-division .ensures))
 
   pub rule-one-requires : solve-one-lts.Need-rule-one-requires calls (solve-one-at t) solve-one.Post Inv-loop μ-loop
   rule-one-requires c κs =
-      let start = c .before .before .before .before .before .before .before .before .before .before .before .before in
-      let length = c .before .before .before .before .before .before .before .before .before .before .length in
-      let loop = c .before .before .before .before .loop in
-      let split-at = c .before .before .split-at in
-      let if1 = c .before .if1 in
+      let at-if1 = c .before in
+      let at-split-placed = at-if1 .before in
+      let at-placed-rule = at-split-placed .before in
+      let at-loop = at-placed-rule .before .before in
+      let at-last-division = at-loop .before .before .before in
+      let at-length = at-last-division .before .before .before in
+      let start = at-length .before .before in
       let e = start .pre .1 .1 in
       let t = e .entry .entry .stands in
-      let d = split-at .ensures .1 _ (t .in-bar .prepared) (t .length-in) .divides (if1 .taken) in
-      let asked = rule-asked e (length .ensures) refl d (loop .inv _ e .1) in
+      let done = at-loop .loop .inv _ e in
+      let k = at-last-division .last-division .ensures in
+      let less = at-placed-rule .before .loop-test .taken in
+      let is = at-placed-rule .placed-rule .ensures in
+      let split = at-split-placed .split-placed .ensures .1 _ _ (t .in-bar .prepared) (division-at (e .entry) done k less) (t .length-in) in
+      let d = split-told (e .entry) done k less is split .divides (at-if1 .if1 .taken) in
+      let asked = rule-asked e (at-length .length .ensures) refl d (rules-here (e .entry) done k less is) in
       (omega (arith, start .pre .0, parts-shorter (e .entry) d), (start .pre .1 .0, asked))
 
   pub loop-less : solve-one-lts.Need-loop-less calls (solve-one-at t) solve-one.Post Inv-loop μ-loop
@@ -117,35 +136,43 @@ module _ (t : ℕ) where
 
   pub loop-again : solve-one-lts.Need-loop-again calls (solve-one-at t) solve-one.Post Inv-loop μ-loop
   loop-again c =
-      let length = c .before .before .before .before .before .before .before .before .before .before .before .before .before .length in
-      let last-division = c .before .before .before .before .before .before .before .before .before .before .last-division in
-      let loop = c .before .before .before .before .before .before .before .loop in
-      let loop-test = c .before .before .before .before .before .before .loop-test in
-      let split-at = c .before .before .before .before .before .split-at in
-      let if1 = c .before .before .before .before .if1 in
-      let rule-one = c .before .before .rule-one in
+      let at-rule-one = c .before .before in
+      let at-if1 = at-rule-one .before .before in
+      let at-split-placed = at-if1 .before in
+      let at-placed-rule = at-split-placed .before in
+      let at-loop = at-placed-rule .before .before in
+      let at-last-division = at-loop .before .before .before in
+      let at-length = at-last-division .before .before .before in
       λ s e.
       let t = e .entry .entry .stands in
-      let d = split-at .ensures .1 s (t .in-bar .prepared) (t .length-in) .divides (if1 .taken) in (
-        omega (arith, loop-test .taken, last-in (e .entry) (last-division .ensures) .0),
-        rule-one .ensures s (rule-asked e (length .ensures) refl d (loop .inv s e .1)),
-      )
+      let done = at-loop .loop .inv s e in
+      let k = at-last-division .last-division .ensures in
+      let less = at-placed-rule .before .loop-test .taken in
+      let is = at-placed-rule .placed-rule .ensures in
+      let split = at-split-placed .split-placed .ensures .1 s _ (t .in-bar .prepared) (division-at (e .entry) done k less) (t .length-in) in
+      let d = split-told (e .entry) done k less is split .divides (at-if1 .if1 .taken) in
+      rules-next (e .entry) done k less is
+      (at-rule-one .rule-one .ensures s
+      (rule-asked e (at-length .length .ensures) refl d (rules-here (e .entry) done k less is)))
 
   pub loop-less-2 : solve-one-lts.Need-loop-less-2 calls (solve-one-at t) solve-one.Post Inv-loop μ-loop
   loop-less-2 c = search needs
 
   pub loop-again-2 : solve-one-lts.Need-loop-again-2 calls (solve-one-at t) solve-one.Post Inv-loop μ-loop
   loop-again-2 c =
-      let last-division = c .before .before .before .before .before .before .last-division in
-      let loop = c .before .before .before .loop in
-      let loop-test = c .before .before .loop-test in
-      let split-at = c .before .split-at in
-      let if1 = c .if1 in
+      let at-split-placed = c .before in
+      let at-placed-rule = at-split-placed .before in
+      let at-loop = at-placed-rule .before .before in
+      let at-last-division = at-loop .before .before .before in
       λ s e.
-      let t = e .entry .entry .stands in (
-        omega (arith, loop-test .taken, last-in (e .entry) (last-division .ensures) .0),
-        ruled-idle s _ _ _ (loop .inv s e .1) (split-at .ensures .1 s (t .in-bar .prepared) (t .length-in) .idle (if1 .left)),
-      )
+      let t = e .entry .entry .stands in
+      let done = at-loop .loop .inv s e in
+      let k = at-last-division .last-division .ensures in
+      let less = at-placed-rule .before .loop-test .taken in
+      let is = at-placed-rule .placed-rule .ensures in
+      let split = at-split-placed .split-placed .ensures .1 s _ (t .in-bar .prepared) (division-at (e .entry) done k less) (t .length-in) in
+      rules-next (e .entry) done k less is
+      (ruled-idle s _ _ _ (rules-here (e .entry) done k less is) (split-told (e .entry) done k less is split .idle (c .if1 .left)))
 
   pub add-store : solve-one-lts.Need-add-store calls (solve-one-at t) solve-one.Post Inv-loop μ-loop
   add-store c =
@@ -155,7 +182,7 @@ module _ (t : ℕ) where
   pub store-requires : solve-one-lts.Need-store-requires calls (solve-one-at t) solve-one.Post Inv-loop μ-loop
   store-requires c κs =
       let e = c .before .before .before .before .before .before .before .before .before .before .pre .1 .1 in
-      let p = c .before .before .loop .inv _ e .1 in
+      let p = c .before .before .loop .inv _ e .ruled in
       (solve-room (e .entry) (p .sound), omega (arith, stands-bar (e .entry .entry .stands)), ruled-low p)
 
   pub same-length : solve-one-lts.Need-same-length calls (solve-one-at t) solve-one.Post Inv-loop μ-loop
@@ -165,7 +192,7 @@ module _ (t : ℕ) where
       let loop-test = c .before .before .before .before .loop-test in
       let store = c .before .before .store in
       let e = c .before .before .before .before .before .before .before .before .before .before .before .before .before .pre .1 .1 in
-      let row = rules-end (e .entry) (last-division .ensures) (loop-test .left) (loop .inv _ e) in
+      let row = rules-end (e .entry) (loop .inv _ e) (last-division .ensures) (loop-test .left) in
       solve-stored (e .entry) row (store .ensures) .sound .size ∙ sym (e .entry .entry .sound .size)
 
   pub returns : solve-one-lts.Need-returns calls (solve-one-at t) solve-one.Post Inv-loop μ-loop
@@ -175,4 +202,4 @@ module _ (t : ℕ) where
       let loop-test = c .before .before .before .before .loop-test in
       let store = c .before .before .store in
       λ s e.
-      solve-stored (e .entry) (rules-end (e .entry) (last-division .ensures) (loop-test .left) (loop .inv s e)) (store .ensures)
+      solve-stored (e .entry) (rules-end (e .entry) (loop .inv s e) (last-division .ensures) (loop-test .left)) (store .ensures)

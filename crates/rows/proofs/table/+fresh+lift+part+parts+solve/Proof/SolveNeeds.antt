@@ -1,17 +1,18 @@
--- `solve`: the invariant of the loop is that there are r rules or more, that `best` is the lesser of what is packed of a
--- leaf and of those of the first r rules that are divisions (`Ruled`), and that the table is sound.
-use Prim.Native.Nat.{ℕ, _-_, _≤_}
+-- `solve`: the invariant of the loop is that `best` is the lesser of what is packed of a leaf and of the divisions before place n, which
+-- are
+-- those of the first r rules (`Done`), and that the table is sound.
+use Prim.Native.Nat.{ℕ, _-_}
 use mathlib.Core.Path.{sym, _∙_}
 use native.Mathlib.Omega.{arith}
 use borrow.Author.Needs.{needs}
 use Rattle.sheet.specs.Sheet.{Sheet}
-use Rattle.plan.specs.Plan.{ruleCount}
-use Rattle.rows.specs.Slots.{itemAt}
 use Rattle.rows.specs.Rows.{SolveEntry}
 use Rattle.rows.specs.NameLaws.{stands-bar, stands-length, stands-head, solve-room, solve-stored}
 use Rattle.rows.specs.PartLaws.{parted-low}
-use Rattle.rows.specs.TurnLaws.{Ruled, ruled-low, ruled-none, ruled-idle, ruled-more}
-use Rattle.rows.specs.CallLaws.{leaf-entry, leaf-told, last-in, rules-begin, rules-end, parts-entry, parts-shorter}
+use Rattle.rows.specs.TurnLaws.{ruled-low, ruled-none, ruled-idle, ruled-more}
+use Rattle.rows.specs.CallLaws.{leaf-entry, leaf-told}
+use Rattle.rows.specs.SolveLaws.{Done, last-in, place-in, division-at, rule-below, split-told}
+use Rattle.rows.specs.SolveLaws.{rules-begin, rules-here, rules-next, rules-end, parts-entry, parts-shorter}
 use Rattle.rows.proofs.table.parts.Reads as parts
 use Rattle.rows.proofs.table.solve.Reads as solve
 use Rattle.rows.proofs.table.+fresh+lift+part+parts+solve.Lts-solve as solve-lts
@@ -19,18 +20,19 @@ use Rattle.plan.proofs.cost.Reads as cost-reads
 use Rattle.plan.proofs.first_division.Reads as first-division-reads
 use Rattle.plan.proofs.last_division.Reads as last-division-reads
 use Rattle.plan.proofs.length.Reads as length-reads
-use Rattle.plan.proofs.split_at.Reads as split-at-reads
+use Rattle.plan.proofs.placed_rule.Reads as placed-rule-reads
+use Rattle.plan.proofs.split_placed.Reads as split-placed-reads
 use Rattle.rows.proofs.leaf.leaf_row.Reads as leaf-row-reads
 use Rattle.rows.proofs.slots.store.Reads as store-reads
 use Rattle.rows.proofs.vector.relax_rule.Reads as relax-rule-reads
 use Rattle.rows.proofs.table.+fresh+lift+part+parts+solve.Proof.Measures.{parts-below, solve-at}
 
 abbrev pub Inv-loop : solve-lts.InvT-loop
-Inv-loop plan us rows₀ bar q l left from c at last best₀ r₀ rows best r =
-    (s : Sheet) → SolveEntry s plan us rows₀ bar q l left from c at → (r ≤ ruleCount s) × Ruled s rows (itemAt s q l left) c r best
+Inv-loop plan us rows₀ bar q l left from c at last best₀ n₀ rows best n =
+    (s : Sheet) (e : SolveEntry s plan us rows₀ bar q l left from c at) → Done e rows n best
 
 abbrev pub μ-loop : solve-lts.MeasureT-loop
-μ-loop plan us rows₀ bar q l left from c at last best₀ r₀ rows best r = last - r
+μ-loop plan us rows₀ bar q l left from c at last best₀ n₀ rows best n = last - n
 
 module _ (t : ℕ) where
   -- the readings of the callees of `solve`
@@ -44,8 +46,10 @@ module _ (t : ℕ) where
     leaf-row-reads.Learnt,
     first-division-reads.Asked,
     first-division-reads.Learnt,
-    split-at-reads.Asked,
-    split-at-reads.Learnt,
+    placed-rule-reads.Asked,
+    placed-rule-reads.Learnt,
+    split-placed-reads.Asked,
+    split-placed-reads.Learnt,
     parts-below t,
     parts.Post,
     cost-reads.Asked,
@@ -81,38 +85,54 @@ module _ (t : ℕ) where
       let told = leaf-told (e .entry) (length .ensures) (c .before .leaf-row .ensures s (leaf-entry (e .entry) (length .ensures))) in
       rules-begin e (c .first-division .ensures) (ruled-none _ _ told (e .entry .sound))
 
-  pub add-r : solve-lts.Need-add-r calls (solve-at t) solve.Post Inv-loop μ-loop
-  add-r c =
-      let start = c .before .before .before .before .before .before .before in
-      let last = last-in (start .pre .1 .1) (c .before .before .before .before .last-division .ensures) in
-      omega (arith, c .loop-test .taken, last .1)
+  pub placed-rule-requires : solve-lts.Need-placed-rule-requires calls (solve-at t) solve.Post Inv-loop μ-loop
+  placed-rule-requires c κs =
+      let at-loop = c .before in
+      let at-last-division = at-loop .before .before .before in
+      let e = at-last-division .before .before .before .pre .1 .1 in
+      place-in e (at-loop .loop .inv _ e) (at-last-division .last-division .ensures) (c .loop-test .taken)
 
-  pub split-at-requires : solve-lts.Need-split-at-requires calls (solve-at t) solve.Post Inv-loop μ-loop
-  split-at-requires c κs =
-      let start = c .before .before .before .before .before .before .before in
-      let last-division = c .before .before .before .before .last-division in
-      let loop-test = c .loop-test in
-      let e = start .pre .1 .1 in
-      (omega (arith, loop-test .taken, last-in e (last-division .ensures) .1), stands-length (e .entry .stands))
+  pub split-placed-requires : solve-lts.Need-split-placed-requires calls (solve-at t) solve.Post Inv-loop μ-loop
+  split-placed-requires c κs =
+      let at-loop = c .before .before in
+      let at-last-division = at-loop .before .before .before in
+      let e = at-last-division .before .before .before .pre .1 .1 in
+      let less = c .before .loop-test .taken in
+      (place-in e (at-loop .loop .inv _ e) (at-last-division .last-division .ensures) less, stands-length (e .entry .stands))
+
+  pub add-n : solve-lts.Need-add-n calls (solve-at t) solve.Post Inv-loop μ-loop
+  add-n c =
+      let at-loop = c .before .before .before in
+      let at-last-division = at-loop .before .before .before in
+      let e = at-last-division .before .before .before .pre .1 .1 in
+      omega (arith, c .before .before .loop-test .taken, last-in e (at-last-division .last-division .ensures))
 
   pub parts-requires : solve-lts.Need-parts-requires calls (solve-at t) solve.Post Inv-loop μ-loop
   parts-requires c κs =
       let at-if1 = c .before in
-      let at-split-at = at-if1 .before in
-      let at-loop = at-split-at .before .before in
-      let start = at-loop .before .before .before .before .before .before in
+      let at-split-placed = at-if1 .before in
+      let at-placed-rule = at-split-placed .before in
+      let at-loop = at-placed-rule .before .before in
+      let at-last-division = at-loop .before .before .before in
+      let start = at-last-division .before .before .before in
       let e = start .pre .1 .1 in
       let t = e .entry .stands in
-      let d = at-split-at .split-at .ensures .1 _ (t .in-bar .prepared) (t .length-in) .divides (at-if1 .if1 .taken) in
-      (omega (arith, start .pre .0, parts-shorter e d), (start .pre .1 .0, parts-entry e d (at-loop .loop .inv _ e .1 .sound)))
+      let done = at-loop .loop .inv _ e in
+      let k = at-last-division .last-division .ensures in
+      let less = at-placed-rule .before .loop-test .taken in
+      let split = at-split-placed .split-placed .ensures .1 _ _ (t .in-bar .prepared) (division-at e done k less) (t .length-in) in
+      let d = split-told e done k less (at-placed-rule .placed-rule .ensures) split .divides (at-if1 .if1 .taken) in
+      (omega (arith, start .pre .0, parts-shorter e d), (start .pre .1 .0, parts-entry e d (done .ruled .sound)))
 
   pub cost-requires : solve-lts.Need-cost-requires calls (solve-at t) solve.Post Inv-loop μ-loop
   cost-requires c κs =
-      let at-loop-test = c .before .before .before .before .before .before in
-      let at-last-division = at-loop-test .before .before .before .before in
+      let at-placed-rule = c .before .before .before .before .before .before in
+      let at-loop = at-placed-rule .before .before in
+      let at-last-division = at-loop .before .before .before in
       let start = at-last-division .before .before .before in
-      let e = start .pre .1 .1 in (
-        omega (arith, at-loop-test .loop-test .taken, last-in e (at-last-division .last-division .ensures) .1),
+      let e = start .pre .1 .1 in
+      let less = at-placed-rule .before .loop-test .taken in (
+        rule-below e (at-loop .loop .inv _ e) (at-last-division .last-division .ensures) less (at-placed-rule .placed-rule .ensures),
         (start .pre .1 .0, e .entry .stands .in-bar .prepared),
       )
 
@@ -120,17 +140,22 @@ module _ (t : ℕ) where
   relax-rule-requires c κs =
       let at-parts = c .before .before .before in
       let at-if1 = at-parts .before .before in
-      let at-split-at = at-if1 .before in
-      let at-loop-test = at-split-at .before in
-      let at-loop = at-loop-test .before in
+      let at-split-placed = at-if1 .before in
+      let at-placed-rule = at-split-placed .before in
+      let at-loop = at-placed-rule .before .before in
       let at-last-division = at-loop .before .before .before in
       let start = at-last-division .before .before .before in
       let e = start .pre .1 .1 in
       let t = e .entry .stands in
-      let d = at-split-at .split-at .ensures .1 _ (t .in-bar .prepared) (t .length-in) .divides (at-if1 .if1 .taken) in (
+      let done = at-loop .loop .inv _ e in
+      let k = at-last-division .last-division .ensures in
+      let less = at-placed-rule .before .loop-test .taken in
+      let is = at-placed-rule .placed-rule .ensures in
+      let split = at-split-placed .split-placed .ensures .1 _ _ (t .in-bar .prepared) (division-at e done k less) (t .length-in) in
+      let d = split-told e done k less is split .divides (at-if1 .if1 .taken) in (
         omega (arith, c .cost .ensures .0),
-        omega (arith, at-loop-test .loop-test .taken, last-in e (at-last-division .last-division .ensures) .1),
-        parted-low (d .rule) (at-parts .parts .ensures _ (parts-entry e d (at-loop .loop .inv _ e .1 .sound))),
+        omega (arith, rule-below e done k less is),
+        parted-low (d .rule) (at-parts .parts .ensures _ (parts-entry e d (done .ruled .sound))),
       )
 
   pub loop-less : solve-lts.Need-loop-less calls (solve-at t) solve.Post Inv-loop μ-loop
@@ -141,34 +166,41 @@ module _ (t : ℕ) where
       let at-cost = c .before in
       let at-parts = at-cost .before .before .before in
       let at-if1 = at-parts .before .before in
-      let at-split-at = at-if1 .before in
-      let at-loop-test = at-split-at .before in
-      let at-loop = at-loop-test .before in
+      let at-split-placed = at-if1 .before in
+      let at-placed-rule = at-split-placed .before in
+      let at-loop = at-placed-rule .before .before in
       let at-last-division = at-loop .before .before .before in
       λ s e.
-      let prepared = e .entry .stands .in-bar .prepared in
-      let d = at-split-at .split-at .ensures .1 s prepared (e .entry .stands .length-in) .divides (at-if1 .if1 .taken) in
-      let done = at-loop .loop .inv s e .1 in (
-        omega (arith, at-loop-test .loop-test .taken, last-in e (at-last-division .last-division .ensures) .0),
-        ruled-more s _ _ _ done (prepared .good) d (e .inhabited) (at-cost .cost .ensures .1 s prepared)
-            (at-parts .parts .ensures s (parts-entry e d (done .sound))) (c .relax-rule .ensures),
-      )
+      let t = e .entry .stands in
+      let done = at-loop .loop .inv s e in
+      let k = at-last-division .last-division .ensures in
+      let less = at-placed-rule .before .loop-test .taken in
+      let is = at-placed-rule .placed-rule .ensures in
+      let split = at-split-placed .split-placed .ensures .1 s _ (t .in-bar .prepared) (division-at e done k less) (t .length-in) in
+      let d = split-told e done k less is split .divides (at-if1 .if1 .taken) in
+      rules-next e done k less is
+      (ruled-more s _ _ _ (rules-here e done k less is) (t .in-bar .prepared .good) d (e .inhabited)
+      (at-cost .cost .ensures .1 s (t .in-bar .prepared)) (at-parts .parts .ensures s (parts-entry e d (done .ruled .sound)))
+      (c .relax-rule .ensures))
 
   pub loop-less-2 : solve-lts.Need-loop-less-2 calls (solve-at t) solve.Post Inv-loop μ-loop
   loop-less-2 c = search needs
 
   pub loop-again-2 : solve-lts.Need-loop-again-2 calls (solve-at t) solve.Post Inv-loop μ-loop
   loop-again-2 c =
-      let last-division = c .before .before .before .before .before .before .last-division in
-      let loop = c .before .before .before .loop in
-      let loop-test = c .before .before .loop-test in
-      let split-at = c .before .split-at in
-      let if1 = c .if1 in
+      let at-split-placed = c .before in
+      let at-placed-rule = at-split-placed .before in
+      let at-loop = at-placed-rule .before .before in
+      let at-last-division = at-loop .before .before .before in
       λ s e.
-      let t = e .entry .stands in (
-        omega (arith, loop-test .taken, last-in e (last-division .ensures) .0),
-        ruled-idle s _ _ _ (loop .inv s e .1) (split-at .ensures .1 s (t .in-bar .prepared) (t .length-in) .idle (if1 .left)),
-      )
+      let t = e .entry .stands in
+      let done = at-loop .loop .inv s e in
+      let k = at-last-division .last-division .ensures in
+      let less = at-placed-rule .before .loop-test .taken in
+      let is = at-placed-rule .placed-rule .ensures in
+      let split = at-split-placed .split-placed .ensures .1 s _ (t .in-bar .prepared) (division-at e done k less) (t .length-in) in
+      rules-next e done k less is
+      (ruled-idle s _ _ _ (rules-here e done k less is) (split-told e done k less is split .idle (c .if1 .left)))
 
   pub add-store : solve-lts.Need-add-store calls (solve-at t) solve.Post Inv-loop μ-loop
   add-store c =
@@ -179,7 +211,7 @@ module _ (t : ℕ) where
   store-requires c κs =
       let start = c .before .before .before .before .before .before .before .before in
       let e = start .pre .1 .1 in
-      let p = c .before .before .loop .inv _ e .1 in
+      let p = c .before .before .loop .inv _ e .ruled in
       (solve-room e (p .sound), omega (arith, stands-bar (e .entry .stands)), ruled-low p)
 
   pub same-length : solve-lts.Need-same-length calls (solve-at t) solve.Post Inv-loop μ-loop
@@ -190,7 +222,7 @@ module _ (t : ℕ) where
       let at-last-division = at-loop .before .before .before in
       let start = at-last-division .before .before .before in
       let e = start .pre .1 .1 in
-      let row = rules-end e (at-last-division .last-division .ensures) (at-loop-test .loop-test .left) (at-loop .loop .inv _ e) in
+      let row = rules-end e (at-loop .loop .inv _ e) (at-last-division .last-division .ensures) (at-loop-test .loop-test .left) in
       solve-stored e row (at-store .store .ensures) .sound .size ∙ sym (e .entry .sound .size)
 
   pub returns : solve-lts.Need-returns calls (solve-at t) solve.Post Inv-loop μ-loop
@@ -200,5 +232,5 @@ module _ (t : ℕ) where
       let at-loop = at-loop-test .before in
       let at-last-division = at-loop .before .before .before in
       λ s e.
-      let row = rules-end e (at-last-division .last-division .ensures) (at-loop-test .loop-test .left) (at-loop .loop .inv s e) in
+      let row = rules-end e (at-loop .loop .inv s e) (at-last-division .last-division .ensures) (at-loop-test .loop-test .left) in
       solve-stored e row (at-store .store .ensures)

@@ -1,0 +1,82 @@
+-- What the requests of document 02 add to the demands, under the requests' own words: theorems about the entries and about what the
+-- search is
+-- prepared with. A reader needs the page of the demands, and of the names below their definitions. x′ is x after the call.
+--   withMultiplier a s, slid a text    the sheet, the text, with the multiplier a in the place of its own (sheet/specs/Multiplier)
+--   AlikeTexts t u                     the same lines but for a's field (sheet/specs/Multiplier)
+--   Call                               a call of `find` by whatever meets `Finds` (finding/specs/Calls), x .answer what it gives
+--   TreeOf s x, RoomFor s x            its text means s, and a tree is handed back; its slices have the lengths that s requires
+--   foundBytes x                       the tree found
+--   Prepared s plan                    what `prepare` gives of the grammar of s (plan/specs/Plan)
+--   ruleIn plan i, firstCell plan q    the rule at place i, and the first place of the rules with head q (plan/specs/Plan)
+--   HeadGroup s q number a b           the places from a up to, but not, b hold every rule with head q, once each and no other: number i is
+--                                      the rule at place i (plan/specs/Heads)
+use Prim.Native.Nat.{ℕ, _+_, _≤_, _<_}
+use mathlib.Core.Path.{_≡_}
+use mathlib.Core.List.{List}
+use mathlib.Core.Logic.{_↔_}
+use Rattle.sheet.specs.Sheet.{Sheet}
+use Rattle.sheet.specs.Accepted.{Accepts}
+use Rattle.sheet.specs.Multiplier.{withMultiplier, AlikeTexts, slid}
+use Rattle.sheet.specs.MultiplierLaws.{texts-alike, slid-accepted}
+use Rattle.plan.specs.Plan.{Prepared, ruleIn, firstCell}
+use Rattle.plan.specs.Heads.{HeadGroup}
+use Rattle.plan.specs.HeadLaws.{head-group}
+use Rattle.trees.specs.ValidTrees.{ValidTree, Priced}
+use Rattle.trees.specs.Sliding.{valid-slid}
+use Rattle.finding.specs.Calls.{Call, foundBytes, TreeOf, RoomFor}
+use Rattle.finding.specs.SlidingLaws as sliding
+
+-- ==== Document 02, (xiv), sliding between plain and close. "They rely on two facts for every accepted sheet"
+
+-- "With a of 1 or more, no valid tree has R and D both as small as the tree found and one of them smaller": where both are as small, both
+-- are the same. With a = 0 one may be smaller (finding/specs/SlidingCases, `dominated-at-zero`).
+pub find-undominated : (s : Sheet) (x : Call) → TreeOf s x → 1 ≤ s .grammar .multiplier
+    → (bs : List ℕ) (R D : ℕ) → Priced s bs R D
+    → R ≤ x .answer .weight → D ≤ x .answer .distance → (R ≡ x .answer .weight) × (D ≡ x .answer .distance)
+find-undominated = sliding.undominated
+
+-- "For two sheets alike except that a grows, when both have a tree, R doesn't rise and D doesn't fall": of sheets
+pub find-slides : (s : Sheet) (a b : ℕ) (x y : Call) → a ≤ b → TreeOf (withMultiplier a s) x → TreeOf (withMultiplier b s) y
+    → (y .answer .weight ≤ x .answer .weight) × (x .answer .distance ≤ y .answer .distance)
+find-slides = sliding.slides
+
+-- and of texts that are the same but for a's field, which mean sheets that are the same but for a; every accepted text has one for each a
+pub find-slides-by-text : (s s′ : Sheet) (x y : Call) → AlikeTexts (x .text) (y .text)
+    → s .grammar .multiplier ≤ s′ .grammar .multiplier → TreeOf s x → TreeOf s′ y
+    → (y .answer .weight ≤ x .answer .weight) × (x .answer .distance ≤ y .answer .distance)
+find-slides-by-text = sliding.slides-by-text
+
+pub read-alike : (t u : List ℕ) (s s′ : Sheet) → Accepts t s → Accepts u s′ → AlikeTexts t u
+    → s′ ≡ withMultiplier (s′ .grammar .multiplier) s
+read-alike = texts-alike
+
+pub read-slid : (text : List ℕ) (s : Sheet) (a : ℕ) → Accepts text s → a ≤ 65535 → Accepts (slid a text) (withMultiplier a s)
+read-slid = slid-accepted
+
+-- They have a tree both or neither: the same lists are valid, and with slices of the required lengths a tree is handed back of both or of
+-- neither.
+pub trees-alike : (s : Sheet) (a b : ℕ) (bs : List ℕ) → ValidTree (withMultiplier a s) bs → ValidTree (withMultiplier b s) bs
+trees-alike = valid-slid
+
+pub find-both-or-neither : (s : Sheet) (a b : ℕ) (x y : Call) → Accepts (x .text) (withMultiplier a s)
+    → Accepts (y .text) (withMultiplier b s) → RoomFor s x → RoomFor s y → (x .answer .number ≡ 0) ↔ (y .answer .number ≡ 0)
+find-both-or-neither = sliding.both-or-neither
+
+pub find-both-or-neither-by-text : (s s′ : Sheet) (x y : Call) → AlikeTexts (x .text) (y .text) → Accepts (x .text) s
+    → Accepts (y .text) s′ → RoomFor s x → RoomFor s y → (x .answer .number ≡ 0) ↔ (y .answer .number ≡ 0)
+find-both-or-neither-by-text = sliding.both-or-neither-by-text
+
+-- Beyond the request: where two multipliers give the same R and D, each between them gives these too, and the same tree.
+pub find-skipped : (s : Sheet) (a b c : ℕ) (x y z : Call) → a ≤ b → b ≤ c
+    → TreeOf (withMultiplier a s) x → TreeOf (withMultiplier b s) y → TreeOf (withMultiplier c s) z
+    → x .answer .weight ≡ z .answer .weight → x .answer .distance ≡ z .answer .distance
+    → (y .answer .weight ≡ x .answer .weight) × (y .answer .distance ≡ x .answer .distance)
+    × (y .answer .nodes ≡ x .answer .nodes) × (foundBytes y ≡ foundBytes x)
+find-skipped = sliding.skipped
+
+-- ==== Document 02, (ix), rules kept by their head. "Each group is shown to hold every rule of its head, once each and no other, and the
+-- first
+-- least tree is the same list": the second half is `find-one-answer` of the demands, since the builds before and after meet one contract.
+pub rules-grouped : (s : Sheet) (plan : List ℕ) → Prepared s plan → (q : ℕ) → q < 16
+    → HeadGroup s q (ruleIn plan) (firstCell plan q) (firstCell plan (q + 1))
+rules-grouped s plan p q h = head-group p h

@@ -1,0 +1,5 @@
+pub mod Sums
+pub mod Groups
+pub mod CountLaws
+pub mod GroupLaws
+pub mod Cases
