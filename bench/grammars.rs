@@ -3,9 +3,9 @@
 
 use crate::lists::leaf_of;
 use crate::orders;
+use crate::rules::MAX_NAMES;
 use crate::sheets::{self, Dice, MAX_RULES, REST};
 
-const MAX_NAMES: usize = 16;
 /// One grammar in so many has all the rules it may have ...
 const FULL_EVERY: usize = 12;
 /// ... and one in so many has other names than the first ones.
@@ -67,7 +67,8 @@ fn headed(
     rules
 }
 
-/// Gives the nonterminals other names among more of them, so that some have no rules.
+/// Gives the nonterminals other names among as many or more, so that some may have no
+/// rules.
 pub fn rename(dice: &mut Dice, head: &mut [u8], rules: &mut [Vec<u8>]) {
     let any = dice.between(head[1].into(), MAX_NAMES);
     let count = dice.pick(&[any, MAX_NAMES]);

@@ -86,7 +86,6 @@ fn grouped_interleaved_and_spread() {
             assert_eq!(other, distance > 1);
         }
     }
-    assert_eq!(tunes::plain(), tunes::plain_in(Order::Grouped));
 }
 
 #[test]

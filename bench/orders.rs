@@ -2,9 +2,8 @@
 //! move, so the least total stays; the numbers of the rules are others then, so the
 //! first of several least trees may be another.
 
+use crate::peer::LEAF;
 use crate::sheets::Dice;
-
-const LEAF: u8 = 0x4C;
 
 /// An order made of one in which the divisions of a head are together. Rules that
 /// it does not tell apart stay as they stood.
@@ -15,8 +14,8 @@ pub enum Order {
     /// The first division of each head, then the second of each and so on, then the
     /// leaves.
     Interleaved,
-    /// The first division of each head, then the leaves, then the last division of
-    /// each head: no order has the divisions of all heads further apart.
+    /// The first division of each head, then the leaves and other divisions, then
+    /// the last division of each head: no order has these further apart for all.
     Spread,
 }
 

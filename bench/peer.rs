@@ -30,7 +30,7 @@ const TOO_MANY: u8 = 8;
 
 const GRAMMAR_HEAD: u8 = 0x47;
 const DIVISION: u8 = 0x44;
-const LEAF: u8 = 0x4C;
+pub const LEAF: u8 = 0x4C;
 const PLAYING_HEAD: u8 = 0x45;
 const ONSET: u8 = 0x4E;
 

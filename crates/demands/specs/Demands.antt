@@ -1,8 +1,8 @@
--- The three demands, clause by clause, as theorems about the entries: whatever meets an entry's contract has what the clause asks. What the
--- requests of document 02 add to them is in `Requests` beside this page. A reader needs this page and the definitions of `readSheet`
--- (sheet/specs/Reading), `ValidTree`, `KindFits`,
--- `Priced`, `totalOf` (trees/specs/ValidTrees), `RestFits` (trees/specs/Kinds), `InDictionaryOrder`, `LeastTree`, `FirstTree`
--- (trees/specs/LeastTrees), `treeBytes`, `workCells` (sizes/specs/Sizes), `scoreText` (score/specs/Score). x′ is x after the call.
+-- The three demands, clause by clause, as theorems about the entries: whatever meets an entry's contract has what the clause asks. Requests
+-- (i) and (iii) of document 02 stand with the clauses that they change; what others add is in `Requests` beside this page. A reader needs
+-- this page and the definitions of `readSheet` (sheet/specs/Reading), `ValidTree`, `KindFits`, `Priced`, `totalOf`
+-- (trees/specs/ValidTrees), `RestFits` (trees/specs/Kinds), `InDictionaryOrder`, `LeastTree`, `FirstTree` (trees/specs/LeastTrees),
+-- `treeBytes`, `workCells` (sizes/specs/Sizes), `scoreText` (score/specs/Score). x′ is x after the call.
 -- Contracts: `Reads` (sheet/specs/Held), `Prices` (pricing/specs/Pricing), `Writes` (score/specs/Writing), `Finds` (finding/specs/Finding),
 -- `Reports` (reporting/specs/Reporting). Names:
 --   Refuses text k n, Accepts text s   `readSheet text` is a refusal with number k and line n, or the sheet s

@@ -1,6 +1,5 @@
--- What the requests of document 02 add to the demands, under the requests' own words: theorems about the entries and about what the
--- search is
--- prepared with. A reader needs the page of the demands, and of the names below their definitions. x′ is x after the call.
+-- What requests (xiv) and (ix) of document 02 add to the demands, under the requests' own words: theorems about `find` and about what the
+-- search is prepared with. A reader needs the page of the demands, and of the names below their definitions.
 --   withMultiplier a s, slid a text    the sheet, the text, with the multiplier a in the place of its own (sheet/specs/Multiplier)
 --   AlikeTexts t u                     the same lines but for a's field (sheet/specs/Multiplier)
 --   Call                               a call of `find` by whatever meets `Finds` (finding/specs/Calls), x .answer what it gives
@@ -75,8 +74,8 @@ pub find-skipped : (s : Sheet) (a b c : ℕ) (x y z : Call) → a ≤ b → b �
 find-skipped = sliding.skipped
 
 -- ==== Document 02, (ix), rules kept by their head. "Each group is shown to hold every rule of its head, once each and no other, and the
--- first
--- least tree is the same list": the second half is `find-one-answer` of the demands, since the builds before and after meet one contract.
+-- first least tree is the same list": the second half is `find-one-answer` of the demands, since the builds before and after meet one
+-- contract.
 pub rules-grouped : (s : Sheet) (plan : List ℕ) → Prepared s plan → (q : ℕ) → q < 16
     → HeadGroup s q (ruleIn plan) (firstCell plan q) (firstCell plan (q + 1))
 rules-grouped s plan p q h = head-group p h

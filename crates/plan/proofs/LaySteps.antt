@@ -6,6 +6,7 @@ use native.Mathlib.Decide.{decLt}
 use native.Mathlib.Omega.{arith}
 use lib.ListN.{length, set, getD, length-set}
 use lib.Seq.{getD-set-same, getD-set-other}
+use Rattle.groups.specs.Groups.{numbersMost, firstCells}
 use Rattle.plan.specs.Layout.{leafCells, childrenAt, leavesAt, lengthsAt, partLengthsAt, orderAt, firstAt}
 use Rattle.plan.specs.Layout.{savingsAt, multiplierAt, nonterminalsAt, lengthCountAt, planCells}
 use Rattle.plan.specs.Plan.{savedCell}
@@ -46,7 +47,7 @@ tables-laid {one = one} size em en a b c d = record {
     front : (i : ℕ) → i ≡ 0 + i
     front i = omega arith
 
-pub groups-laid : {order first before middle after : List ℕ} {m n : ℕ} → m ≡ 64 → n ≡ 33
+pub groups-laid : {order first before middle after : List ℕ} {m n : ℕ} → m ≡ numbersMost → n ≡ firstCells
     → Laid (λ i. getD order i 0) before middle orderAt m → Laid (λ i. getD first i 0) middle after firstAt n
     → GroupsLaid order first before after
 groups-laid em en a b = record {

@@ -1,7 +1,7 @@
 pub mod RuleSteps
 pub mod LeafSteps
 pub mod SavedSteps
-pub mod CardSteps
+pub mod KeySteps
 pub mod LaySteps
 pub mod PartSteps
 pub mod WaySteps

@@ -7,7 +7,7 @@ use native.Mathlib.Omega.{arith}
 use lib.ListN.{length, getD}
 use Rattle.slices.specs.Lookup.{some-below}
 use Rattle.slices.specs.Pad.{pad, getD-pad}
-use Rattle.groups.specs.Groups.{Grouped}
+use Rattle.groups.specs.Groups.{keyCount}
 use Rattle.groups.specs.GroupLaws.{group-same}
 use Rattle.sheet.specs.declared.table.GrammarTable.{GrammarTable}
 use Rattle.sheet.specs.Sheet.{division, Grammar, Sheet}
@@ -22,11 +22,10 @@ use Rattle.expansions.specs.Tables.{unpackedOf, PackedRules, RulesHeld}
 use Rattle.plan.specs.Layout.{kinds, childrenAt, leavesAt}
 use Rattle.plan.specs.Leaves.{ruleCount}
 use Rattle.plan.specs.Heads.{RuleGroup}
-use Rattle.plan.specs.Cards.{CardsOf}
+use Rattle.plan.specs.RuleKeys.{ByHead}
 use Rattle.plan.specs.Plan.{lengths, lengthAt, PartLength, orderCell, placeCell, wayCell, WaysOf, Prepared}
 use Rattle.plan.specs.PlanLaws.{lengths-most}
 use Rattle.plan.specs.Sections.{PackedLeaves, PartAmong, Falling, WayIs, Sections}
-use Rattle.plan.proofs.CardSteps.{groups-are}
 
 -- ---- the plan
 
@@ -110,15 +109,14 @@ module _ (s : Sheet) (rules children leaves lens : List ℕ) (a q count n : ℕ)
             (lens-at l within ∙ e ∙ ap (λ (x : ℕ). k * x) (sym (lens-at i (omega (arith, lengths-most s)))));
       }
 
-  module _ {keys arities order first plan : List ℕ} (cards : CardsOf rules n keys arities)
-      (groups : Grouped (λ r. getD keys r 0) (λ r. getD arities r 0) n order first)
+  module _ {order first plan : List ℕ} (groups : ByHead s order first)
       (sections : Sections rules children leaves lens order first a q count n plan) where
     -- a group's places
-    group-in : (k : ℕ) → k < 32 → RuleGroup s (orderCell plan) k (placeCell plan k) (placeCell plan (k + 1))
+    group-in : (k : ℕ) → k < keyCount → RuleGroup s (orderCell plan) k (placeCell plan k) (placeCell plan (k + 1))
     group-in k h =
         rw (sections .first-at k (omega arith), sections .first-at (k + 1) (omega arith))
-        (group-same (groups-are s (t .good) (t .rules-are) cards (t .n-is) groups k h)
-        (λ i lo hi. sections .order-at i (omega (arith, hi, groups .most (k + 1) (omega arith), t .n-is, t .good .most))))
+        (group-same (groups .group k h)
+        (λ i lo hi. sections .order-at i (omega (arith, hi, groups .most (k + 1) (omega arith), t .good .most))))
 
     -- the ways of a division
     ways-of : (r j h w : ℕ) (ks : List ℕ) → ruleAt s r ≡ some (division h w ks) → j < length ks → WaysOf s plan r ks j
@@ -150,7 +148,7 @@ module _ (s : Sheet) (rules children leaves lens : List ℕ) (a q count n : ℕ)
           let below : l < 84 = omega (arith, lengths-most s) in
           part-of l k _ below (sections .part l k (omega (arith, count-lengths)) two (omega arith));
       group = group-in;
-      places = λ k h. omega (arith, sections .first-at k (omega arith), groups .most k h, t .n-is);
+      places = λ k h. omega (arith, sections .first-at k (omega arith), groups .most k h);
       saved-are = λ c h. sections .saved c h s (t .good) (t .leaves-are) (t .q-is);
       multiplier = sections .multiplier ∙ t .a-is;
       nonterminals = sections .nonterminals ∙ t .q-is;

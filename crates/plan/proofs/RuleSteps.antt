@@ -1,10 +1,10 @@
 -- Steps of reading one rule of the plan: what the rule in a cell tells of the sheet's rule, and so of its cost, of how it divides a length
 -- and of whether it is a leaf or a division.
 use Prim.Native.Nat.{ℕ, _*_, _<_, _≤_}
-use mathlib.Core.Path.{_≡_, refl, sym, ap, _∙_}
+use mathlib.Core.Path.{_≡_, refl, sym, ap, subst, _∙_}
 use mathlib.Core.List.{List}
 use mathlib.Core.Logic.{inl, inr}
-use mathlib.Core.Option.{Option, none, some, Option·elim}
+use mathlib.Core.Option.{Option, none, some, Option·elim, Option·none-ne-some}
 use native.Mathlib.Nat.{mul-le-mul}
 use native.Mathlib.Omega.{arith}
 use lib.ListN.{length, getD}
@@ -12,12 +12,13 @@ use Rattle.groups.specs.Groups.{noteIn}
 use Rattle.sheet.specs.declared.table.Rule as held
 use Rattle.sheet.specs.declared.table.Rule.the-variants.{Division, Leaf}
 use Rattle.sheet.specs.Sheet.{Rule, division, leaf, Sheet}
+use Rattle.sheet.specs.Good.{GoodRules}
 use Rattle.trees.specs.ValidTrees.{ruleAt, weightOf, weightAt}
 use Rattle.trees.specs.Room.{good-division}
 use Rattle.expansions.specs.Tables.{unpackedOf, cellOf, PackedRules}
 use Rattle.expansions.specs.RuleCells.{leaf≢division, leaf-rule, DivisionRule, division-rule}
 use Rattle.plan.specs.declared.Split.{Split}
-use Rattle.plan.specs.Plan.{lengths, partCell, orderCell, ruleIn, multiplierCell, lengthsCell, Prepared, DivisionAt}
+use Rattle.plan.specs.Plan.{lengths, lengthAt, partCell, orderCell, ruleIn, multiplierCell, lengthsCell, Prepared, DivisionAt}
 use Rattle.plan.specs.Plan.{arityOf, ShapeAt, Divides, PartsOf, NoDivision, SplitAt}
 use Rattle.plan.specs.PlanLaws.{part-listed}
 use Rattle.plan.specs.HeadLaws.{place-division, place-arity}
@@ -47,6 +48,28 @@ division-arity (some (division a b ks)) h w k e = cc
 -- what stands for no division
 abbrev noSplit : Split
 noSplit = record { arity = 0; part = 0 }
+
+-- how a division divides a length, by the parts of the length
+division-split : (s : Sheet) → GoodRules (s .grammar) → (q l r : ℕ) (x : Split) → l < lengths s → (w : ℕ) (ks : List ℕ)
+    → ruleAt s r ≡ some (division q w ks) → PartsOf s l (length ks) x → SplitAt s q l r x
+division-split s good q l r x within w ks is parts = record { idle = idle; divides = divides }
+  where
+    idle : x .arity ≡ 0 → NoDivision s q l r
+    idle z v js there divided =
+        let same : js ≡ ks = let both : some (division q v js) ≡ some (division q w ks) = sym there ∙ is in cc both in
+        let fit = good-division s good r q w ks is in
+        let (i, less, whole) = part-listed s good r l q v js within there divided in
+        parts .idle z (fit .two) (fit .eight) i less (subst (λ (ms : List ℕ). lengthAt s l ≡ length ms * lengthAt s i) same whole)
+
+    divides : (x .arity ≡ 0 → ⊥) → Divides s q l r (x .arity) (x .part)
+    divides f = record {
+      weight = w;
+      parts = ks;
+      rule = is;
+      count = sym (parts .into f);
+      shorter = parts .shorter f;
+      whole = rw (parts .into f) (parts .whole f);
+    }
 
 -- a times a weight
 pub weighted-most : (a w : ℕ) → a < 65536 → w < 65536 → a * w ≤ 4294836225
@@ -97,59 +120,27 @@ module _ (s : Sheet) (plan : List ℕ) (r : ℕ) (rule : held.Rule) (below : r <
   other-head h w k q l e f =
       idle-split q l (λ v ks o. let same : Division h w k ≡ Division q v (length ks) = sym (cell _ e) ∙ ap cellOf o in absurd (f (cc same)))
 
-  pub same-head : (h w k q l : ℕ) (x : Split) → rule ≡ Division h w k → h ≡ q → PartsOf s l k x → l < lengths s → SplitAt s q l r x
-  same-head h w k q l x e head parts within =
-      record { idle = none-there; divides = λ f. into f (division-rule (ruleAt s r) h w k (cell _ e)) }
+  pub same-head : (h w k q l : ℕ) (x : Split) → rule ≡ Division h w k → h ≡ q → PartsOf s l k x → l < lengths s
+      → SplitAt s q l r x
+  same-head h w k q l x e head parts within = go (division-rule (ruleAt s r) h w k (cell _ e))
     where
-      none-there : x .arity ≡ 0 → NoDivision s q l r
-      none-there z v ks o divided =
-          let same : Division h w k ≡ Division q v (length ks) = sym (cell _ e) ∙ ap cellOf o in
-          let count : k ≡ length ks = cc same in
-          let good = good-division s (p .good) r q v ks o in
-          let (i, less, whole) = part-listed s (p .good) r l q v ks within o divided in
-          parts .idle z (omega (arith, good .two)) (omega (arith, good .eight)) i less (rw count whole)
+      go : DivisionRule (ruleAt s r) h w k → SplitAt s q l r x
+      go (inl (o, z)) = record {
+        idle = λ _ v ks there. absurd (Option·none-ne-some _ (sym o ∙ there));
+        divides = λ f. absurd (f (parts .into f ∙ z));
+      }
+      go (inr (ks, o, z)) =
+          division-split s (p .good) q l r x within w ks (rw (← head) o) (subst (λ (m : ℕ). PartsOf s l m x) z parts)
 
-      into : (x .arity ≡ 0 → ⊥) → DivisionRule (ruleAt s r) h w k → Divides s q l r (x .arity) (x .part)
-      into f (inl (o, z)) = absurd (f (parts .into f ∙ z))
-      into f (inr (ks, o, z)) =
-          record {
-            weight = w;
-            parts = ks;
-            rule = rw (← head) o;
-            count = sym z ∙ sym (parts .into f);
-            shorter = parts .shorter f;
-            whole = rw (parts .into f) (parts .whole f);
-          }
-
--- ---- how a division divides a length
+-- ---- how the rule at a place divides a length
 
 -- the rule at a place of a nonterminal's divisions, by the parts of the length
-module _ (s : Sheet) (plan : List ℕ) (l i q : ℕ) (x : Split) (p : Prepared s plan) (d : DivisionAt plan q i)
-    (within : l < lengths s) where
-  pub placed-split : PartsOf s l (noteIn (orderCell plan i)) x → SplitAt s q l (ruleIn plan i) x
-  placed-split parts = record { idle = idle; divides = divides }
-    where
-      arity : (w : ℕ) (ks : List ℕ) → ruleAt s (ruleIn plan i) ≡ some (division q w ks) → noteIn (orderCell plan i) ≡ length ks
-      arity w ks is = place-arity p (d .head) (d .begun) (d .less) ∙ ap arityOf is
-
-      idle : x .arity ≡ 0 → NoDivision s q l (ruleIn plan i)
-      idle z w ks is divided =
-          let good = good-division s (p .good) (ruleIn plan i) q w ks is in
-          let (h, less, whole) = part-listed s (p .good) (ruleIn plan i) l q w ks within is divided in
-          parts .idle z (omega (arith, good .two, arity w ks is)) (omega (arith, good .eight, arity w ks is)) h less
-          (rw (arity w ks is) whole)
-
-      divides : (x .arity ≡ 0 → ⊥) → Divides s q l (ruleIn plan i) (x .arity) (x .part)
-      divides f =
-          let (w, ks, is) = place-division p (d .head) (d .begun) (d .less) in
-          record {
-            weight = w;
-            parts = ks;
-            rule = is;
-            count = sym (arity w ks is) ∙ sym (parts .into f);
-            shorter = parts .shorter f;
-            whole = rw (parts .into f) (parts .whole f);
-          }
+pub placed-split : (s : Sheet) (plan : List ℕ) (l i q : ℕ) (x : Split) → Prepared s plan → DivisionAt plan q i → l < lengths s
+    → PartsOf s l (noteIn (orderCell plan i)) x → SplitAt s q l (ruleIn plan i) x
+placed-split s plan l i q x p d within parts =
+    let (w, ks, is) = place-division p (d .head) (d .begun) (d .less) in
+    let arity : noteIn (orderCell plan i) ≡ length ks = place-arity p (d .head) (d .begun) (d .less) ∙ ap arityOf is in
+    division-split s (p .good) q l (ruleIn plan i) x within w ks is (subst (λ (m : ℕ). PartsOf s l m x) arity parts)
 
 -- a length in k parts, by the index that the plan has of a part
 module _ (s : Sheet) (plan : List ℕ) (l k : ℕ) (p : Prepared s plan) where

@@ -1,6 +1,5 @@
 -- Steps of the ways: the parts of a division as leaves of nothing, summed up; what the parts beside one cost is that sum without it; and
--- the
--- ways, part after part and rule after rule.
+-- the ways, part after part and rule after rule.
 use Prim.Native.Nat.{ℕ, _+_, _*_, _≤_, _<_, min}
 use mathlib.Core.Path.{_≡_, refl, sym, ap, _∙_}
 use mathlib.Core.Bool.{Bool, true, false, cond}
@@ -103,7 +102,7 @@ ways-put plan r j x y z size below eight = record {
 }
   where
     at : ℕ
-    at = waysAt + 3 * (8 * r + j)
+    at = partWays r j
 
     one : List ℕ
     one = set plan at x
@@ -157,7 +156,7 @@ module _ {x r k j straight : ℕ} (straight-is : straight ≡ 64 * min NONE x + 
 pub division-none : {children leaves : List ℕ} {cost r k : ℕ} {plan : List ℕ} → DivisionWays children leaves cost r k plan plan 0
 division-none = record { size = refl; each = λ s ks d e j i h. absurd (omega arith); kept = λ i h. refl }
 
--- a part, and the part behind it, are among all parts
+-- a part is one of all parts
 pub rest-least : (children leaves : List ℕ) (cost r k j own all : ℕ) → j < k → own ≡ restIn children leaves r j
     → all ≡ cost + sumTo (restIn children leaves r) k → own ≤ all
 rest-least children leaves cost r k j own all h e f = omega (arith, sum-part (restIn children leaves r) k j h)

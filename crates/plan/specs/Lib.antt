@@ -1,7 +1,7 @@
 pub mod Layout
 pub mod Leaves
 pub mod Heads
-pub mod Cards
+pub mod RuleKeys
 pub mod Packed
 pub mod Ways
 pub mod Plan

@@ -5,7 +5,7 @@ use mathlib.Core.Path.{_≡_}
 use mathlib.Core.List.{List, map}
 use mathlib.Core.Option.{some}
 use lib.ListN.{length, getD}
-use Rattle.groups.specs.Groups.{numberIn}
+use Rattle.groups.specs.Groups.{keyCount, numberIn}
 use Rattle.sheet.specs.Sheet.{division, Sheet}
 use Rattle.sheet.specs.Good.{GoodRules}
 use Rattle.sheet.specs.Held.{partsOf, childCells}
@@ -115,8 +115,8 @@ pub record Prepared (s : Sheet) (plan : List ℕ) : Type 0 where
   pub leaves : (q n : ℕ) → q < 16 → n < kinds → leafCell plan q n ≡ packedLeaf s q n
   pub length-at : (l : ℕ) → l < 84 → lengthCell plan l ≡ lengthAt s l
   pub part : (l k : ℕ) → l < lengths s → 2 ≤ k → k ≤ 8 → PartLength s l k (partCell plan l k)
-  pub group : (k : ℕ) → k < 32 → RuleGroup s (orderCell plan) k (placeCell plan k) (placeCell plan (k + 1))
-  pub places : (k : ℕ) → k ≤ 32 → placeCell plan k ≤ ruleCount s
+  pub group : (k : ℕ) → k < keyCount → RuleGroup s (orderCell plan) k (placeCell plan k) (placeCell plan (k + 1))
+  pub places : (k : ℕ) → k ≤ keyCount → placeCell plan k ≤ ruleCount s
   pub saved-are : (c : ℕ) → c < 4 → savedCell plan c ≡ savedBy s c
   pub multiplier : multiplierCell plan ≡ s .grammar .multiplier
   pub nonterminals : nonterminalsCell plan ≡ s .grammar .nonterminals

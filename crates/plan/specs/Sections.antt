@@ -1,6 +1,5 @@
 -- What the functions that prepare the plan give: the packed leaf cells as a table, the index of a part, the ways, and the plan section
--- after
--- section, over the tables that it comes from.
+-- after section, over the tables that it comes from.
 use Prim.Native.Nat.{ℕ, _+_, _*_, _/_, _≤_, _<_}
 use mathlib.Core.Path.{_≡_}
 use mathlib.Core.Bool.{cond}
@@ -8,6 +7,7 @@ use mathlib.Core.List.{List, map}
 use mathlib.Core.Option.{some}
 use lib.Dec.{ltb}
 use lib.ListN.{length, getD}
+use Rattle.groups.specs.Groups.{firstCells}
 use Rattle.sheet.specs.Sheet.{division, Sheet}
 use Rattle.sheet.specs.Good.{GoodRules}
 use Rattle.sheet.specs.Held.{partsOf, childCells}
@@ -148,7 +148,7 @@ pub record PartsLaid (lens : List ℕ) (count : ℕ) (before after : List ℕ) (
 pub record GroupsLaid (order first before after : List ℕ) : Type 0 where
   pub size : length after ≡ length before
   pub order-at : (i : ℕ) → i < 64 → orderCell after i ≡ getD order i 0
-  pub first-at : (k : ℕ) → k < 33 → placeCell after k ≡ getD first k 0
+  pub first-at : (k : ℕ) → k < firstCells → placeCell after k ≡ getD first k 0
   pub kept : (i : ℕ) → i < orderAt → getD after i 0 ≡ getD before i 0
 
 -- what each carry state saves, the multiplier, the number of nonterminals and the number of lengths
@@ -174,7 +174,7 @@ pub record Sections (rules children leaves lens order first : List ℕ) (a heads
   pub length-at : (i : ℕ) → i < 84 → lengthCell plan i ≡ getD lens i 0
   pub part : (l k : ℕ) → l < count → 2 ≤ k → k < 9 → PartAmong lens count l k (partCell plan l k)
   pub order-at : (i : ℕ) → i < 64 → orderCell plan i ≡ getD order i 0
-  pub first-at : (k : ℕ) → k < 33 → placeCell plan k ≡ getD first k 0
+  pub first-at : (k : ℕ) → k < firstCells → placeCell plan k ≡ getD first k 0
   pub saved : (c : ℕ) → c < 4 → MostSaved leaves heads c (savedCell plan c)
   pub multiplier : multiplierCell plan ≡ a
   pub nonterminals : nonterminalsCell plan ≡ heads

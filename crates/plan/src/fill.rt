@@ -11,7 +11,7 @@ ghost use Rattle.plan.specs.Layout.{planCells};
 ghost use Rattle.plan.specs.Plan.{Prepared};
 ghost use Rattle.plan.specs.Sections.{Small, Wide, Falling, Sections};
 use crate::Plan;
-use crate::heads::cards_of;
+use crate::heads::by_head;
 use crate::lay::lay_groups;
 use crate::lay::lay_numbers;
 use crate::lay::lay_tables;
@@ -23,8 +23,7 @@ use crate::ways::lay_ways;
 use expansions::PackedRules;
 use expansions::pack_rules;
 use groups::Firsts;
-use groups::Order;
-use groups::group;
+use groups::Numbers;
 use sheet::Children;
 use sheet::GrammarTable;
 use sizes::LengthCells;
@@ -37,7 +36,7 @@ fn lay_sections<'a>(
     children: &'a Children,
     leaves: &'a Leaves,
     lens: &'a LengthCells,
-    order: &'a Order,
+    order: &'a Numbers,
     first: &'a Firsts,
     a: u16,
     heads: usize,
@@ -78,10 +77,7 @@ pub fn prepare(grammar: GrammarTable, reached: LengthTable) -> Plan
     let leaves = least_leaves(&rules, a, n);
     let lens = reached.cells;
     let count = reached.count;
-    let by_head = cards_of(&rules, n);
-    let keys = by_head.keys;
-    let arities = by_head.arities;
-    let groups = group(keys, arities, n);
+    let groups = by_head(&rules, n);
     let order = groups.order;
     let first = groups.first;
     let mut plan = [0u64; PLAN_CELLS];

@@ -18,7 +18,7 @@ use crate::leaves::saved_by;
 use crate::ways::Leaves;
 use expansions::PackedRules;
 use groups::Firsts;
-use groups::Order;
+use groups::Numbers;
 use sheet::CHILD_CELLS;
 use sheet::Children;
 use sizes::LENGTHS_MOST;
@@ -82,7 +82,7 @@ pub fn lay_tables<'a>(
 }
 
 // Lays the rules by head and the first place of each group.
-pub fn lay_groups<'a>(plan: &mut [u64], order: &'a Order, first: &'a Firsts)
+pub fn lay_groups<'a>(plan: &mut [u64], order: &'a Numbers, first: &'a Firsts)
     requires { ⌜ length (now plan) ≡ planCells ⌝ }
     ensures { λ _. ⌜ GroupsLaid (now (order .entry)) (now (first .entry)) (now (plan .entry)) (now (plan .exit)) ⌝ }
 {

@@ -1,12 +1,12 @@
 // What the search looks up of a grammar, prepared once for a sheet in one flat array: a reference to a struct is not covered, and a
 // grammar by value is copied at each call. The array is read through the functions below alone.
 ghost use mathlib.Core.Path.{_≡_};
-ghost use Prim.Native.Nat.{ℕ, _+_, _*_, _/_, _<_, _≤_};
+ghost use Prim.Native.Nat.{ℕ, _*_, _/_, _<_, _≤_};
 ghost use Rattle.sheet.specs.Sheet.{Sheet};
 ghost use Rattle.trees.specs.ValidTrees.{weightAt};
 ghost use Rattle.plan.specs.Layout.{kinds};
 ghost use Rattle.plan.specs.Plan.{childCell, leafCell, lengthCell, ruleIn, firstCell, lastCell, savedCell, wayCell};
-ghost use Rattle.plan.specs.Plan.{multiplierCell, nonterminalsCell, lengthsCell};
+ghost use Rattle.plan.specs.Plan.{nonterminalsCell, lengthsCell};
 ghost use Rattle.plan.specs.Plan.{lengths, Prepared, DivisionAt, ShapeAt, PartsOf, SplitAt};
 
 mod fill;
@@ -107,7 +107,7 @@ pub fn last_division(plan: &Plan, q: usize) -> usize
 }
 
 // The rule at a place.
-pub fn placed_rule(plan: &Plan, i: usize) -> usize
+pub fn rule_at_place(plan: &Plan, i: usize) -> usize
     requires { ⌜ i < 64 ⌝ }
     ensures { λ x. ⌜ x ≡ ruleIn (now (plan .entry)) i ⌝ }
 {
@@ -237,7 +237,7 @@ pub fn split_at(plan: &Plan, q: usize, l: usize, r: usize) -> Split
 }
 
 // How the rule at place i, a division, divides an interval of the length with index l.
-pub fn split_placed(plan: &Plan, l: usize, i: usize) -> Split
+pub fn split_at_place(plan: &Plan, l: usize, i: usize) -> Split
     requires { ⌜ (i < 64) × (l < 84) ⌝ }
     ensures { λ x. ⌜
         (x .arity ≤ 8)

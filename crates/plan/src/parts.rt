@@ -11,7 +11,7 @@ use sheet::Units;
 use sizes::LengthCells;
 use sizes::first_at_most;
 
-// h, the first place whose length is at most a k-th of `len`, where it is a k-th; else `count`.
+// h, the first place whose length is at most a k-th of the length with index l, where it is a k-th; else `count`.
 fn part_at(lens: &LengthCells, count: usize, l: usize, k: usize, h: usize) -> u64
     requires { ⌜
         (count ≤ 84) × (l < count) × (2 ≤ k) × (k < 9) × Small (now lens) × Falling (now lens) count

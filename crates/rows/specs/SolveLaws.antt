@@ -1,5 +1,5 @@
 -- `solve` goes over the divisions of its nonterminal, place after place, and asks `parts` of each. Assumes nothing.
-use Prim.Native.Nat.{ℕ, _+_, _-_, _≤_, _<_}
+use Prim.Native.Nat.{ℕ, _+_, _≤_, _<_}
 use mathlib.Core.Path.{_≡_, refl, sym, subst}
 use mathlib.Core.List.{List}
 use native.Mathlib.Nat.{mul-le-mul-right}
@@ -100,7 +100,6 @@ module _ {s : Sheet} {plan units rows : List ℕ} {bar : Bar} {q l : ℕ} {left 
     -- parts are shorter: there are two or more, and an interval has a length
     pub parts-shorter : lengthCell plan h < lengthCell plan l
     parts-shorter =
-        let prepared = e .entry .stands .in-bar .prepared in
         let two = good-division s (prepared .good) r q (d .weight) (d .parts) (d .rule) .two in
         omega (
           arith,

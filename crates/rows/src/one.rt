@@ -26,8 +26,8 @@ use plan::first_division;
 use plan::last_division;
 use plan::leaf_cell;
 use plan::length;
-use plan::placed_rule;
-use plan::split_placed;
+use plan::rule_at_place;
+use plan::split_at_place;
 use plan::way;
 use sheet::Units;
 
@@ -127,8 +127,8 @@ pub fn solve_one<'a>(
     let mut one = leaf.one;
     let mut n = first_division(plan, q);
     while n < last {
-        let rule = placed_rule(plan, n);
-        let split = split_placed(plan, l, n);
+        let rule = rule_at_place(plan, n);
+        let split = split_at_place(plan, l, n);
         n += 1;
         let k = split.arity;
         let h = split.part;

@@ -33,8 +33,8 @@ use plan::first_division;
 use plan::last_division;
 use plan::leaf_cell;
 use plan::length;
-use plan::placed_rule;
-use plan::split_placed;
+use plan::rule_at_place;
+use plan::split_at_place;
 use sheet::Units;
 
 // The row of an item from carry state c. Without an onset inside it is a leaf of what is carried in, and nothing is carried on.
@@ -121,8 +121,8 @@ fn solve<'a>(
     let mut best = leaf_row(plan, units, q, over, from, c);
     let mut n = first_division(plan, q);
     while n < last {
-        let rule = placed_rule(plan, n);
-        let split = split_placed(plan, l, n);
+        let rule = rule_at_place(plan, n);
+        let split = split_at_place(plan, l, n);
         n += 1;
         let k = split.arity;
         let h = split.part;

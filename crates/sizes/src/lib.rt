@@ -14,6 +14,7 @@ use sheet::BAR_UNITS;
 use sheet::BARS_MOST;
 use sheet::GrammarTable;
 use sheet::ONSETS_MOST;
+use sheet::PARTS_MOST;
 use sheet::PlayingTable;
 use sheet::Rule;
 use sheet::Units;
@@ -23,6 +24,12 @@ pub const LENGTHS_MOST: usize = 84;
 
 // The lengths of intervals, from the largest down; places left are zero.
 pub type LengthCells = [u32; LENGTHS_MOST];
+
+// The cells of a table by number of parts, from 0 on.
+const ARITY_CELLS: usize = PARTS_MOST + 1;
+
+// For each number of parts a place among the lengths.
+type Cursors = [usize; ARITY_CELLS];
 
 // The bytes of the tree slice for each onset.
 pub const ONSET_TREE_BYTES: usize = 80;
@@ -40,11 +47,11 @@ pub struct LengthTable {
 }
 
 // For each k up to 8 whether some division has k parts.
-fn arities(g: GrammarTable) -> [bool; 9]
+fn arities(g: GrammarTable) -> [bool; ARITY_CELLS]
     requires { ⌜ g .count ≤ 64 ⌝ }
     ensures { λ r. ⌜ ((h : Grammar) → GoodRules h → g ≡ grammarTable h → r ≡ arityFlags (h .rules)) ⌝ }
 {
-    let mut flags = [false; 9];
+    let mut flags = [false; ARITY_CELLS];
     let n = g.count;
     let mut i: usize = 0;
     while i < n {
@@ -89,7 +96,7 @@ pub fn first_at_most(cells: &LengthCells, count: usize, from: usize, x: Units) -
 
 // Whether k times d is among the first `count` cells, which fall. Every cell before at[k] is above k times d, so the search starts there;
 // at[k] moves on to the first cell that is not.
-fn is_among(cells: &LengthCells, at: &mut [usize; 9], count: usize, k: usize, d: Units) -> bool
+fn is_among(cells: &LengthCells, at: &mut Cursors, count: usize, k: usize, d: Units) -> bool
     requires { ⌜ (count ≤ 84) × (k < 9) × (d .0 ≤ 20160) × Cursors (now cells) count (d .0) (now at) ⌝ }
     ensures { λ r. ⌜
         Cursors (now (cells .entry)) count (d .0) (now (at .exit)) × AmongOf (now (cells .entry)) count (k * d .0) r
@@ -109,9 +116,9 @@ fn is_among(cells: &LengthCells, at: &mut [usize; 9], count: usize, k: usize, d:
 
 // Whether d is the whole bar, or some arity times d is among the first `count` cells. For each arity k that is looked at, at[k] moves on.
 fn is_reached(
-    flags: [bool; 9],
+    flags: [bool; ARITY_CELLS],
     cells: &LengthCells,
-    at: &mut [usize; 9],
+    at: &mut Cursors,
     count: usize,
     d: Units,
 ) -> bool
@@ -143,7 +150,7 @@ pub fn lengths(g: GrammarTable) -> LengthTable
     ensures { λ r. ⌜ (r .count ≤ 84) × ((h : Grammar) → GoodRules h → g ≡ grammarTable h → r ≡ lengthTable (lengthsOf (h .rules))) ⌝ }
 {
     let flags = arities(g);
-    let mut at = [0usize; 9];
+    let mut at = [0usize; ARITY_CELLS];
     let mut cells = [0u32; LENGTHS_MOST];
     let mut count: usize = 0;
     let mut j: usize = 0;

@@ -1,10 +1,10 @@
 -- `prepare` meets its contract: the sections are laid from the sheet's tables. Assumes nothing.
 use Prim.Native.Nat.{_≤_}
-use mathlib.Core.Path.{_≡_, refl}
+use mathlib.Core.Path.{refl}
 use mir.Syntax.{w32, w64}
 use mir.Val.{Fits}
-use lib.ListN.{length, getD}
-use native.Mathlib.Omega.{arith}
+use lib.ListN.{getD}
+use Rattle.expansions.specs.Tables.{RulesHeld}
 use Rattle.plan.specs.Sections.{Small}
 use Rattle.plan.proofs.PlanSteps.{few-rules, few-heads, few-lengths, falling, tables-of, prepared}
 use borrow.Author.Needs.{needs}
@@ -30,17 +30,8 @@ cast-heads c = search needs
 least-leaves-requires : tie.Need-least-leaves-requires
 least-leaves-requires c κs = rules-few (c .before .before .before .before)
 
-slice-aggregate-cards-of : tie.Need-slice-aggregate-cards-of
-slice-aggregate-cards-of c = search needs
-
-cards-of-requires : tie.Need-cards-of-requires
-cards-of-requires c κs =
-    let packed = c .before .before .before .before .before .before in
-    let size : length (packed .pack-rules .result) ≡ 64 = search needs in
-    (rules-few (packed .before), omega (arith, rules-few (packed .before), size))
-
-group-requires : tie.Need-group-requires
-group-requires c κs = rules-few (c .before .before .before .before .before .before .before .before .before .before)
+by-head-requires : tie.Need-by-head-requires
+by-head-requires c κs = rules-few (c .before .before .before .before .before .before .before)
 
 slice-aggregate-lay-sections : tie.Need-slice-aggregate-lay-sections
 slice-aggregate-lay-sections c = search needs
@@ -48,8 +39,7 @@ slice-aggregate-lay-sections c = search needs
 lay-sections-requires : tie.Need-lay-sections-requires
 lay-sections-requires c κs =
     let grouped = c .before .before .before .before .before .before .before .before .before in
-    let carded = grouped .before .before .before in
-    let lowered = carded .before .before .before in
+    let lowered = grouped .before .before .before in
     let start = lowered .before .before .before .before .before in
     let told = start .args in
     let pre = start .pre in (
@@ -67,15 +57,15 @@ returns : tie.Need-returns
 returns c =
     let laid = c .before in
     let grouped = laid .before .before .before .before .before .before .before .before .before .before in
-    let carded = grouped .before .before .before in
-    let lowered = carded .before .before .before in
+    let lowered = grouped .before .before .before in
     let packed = lowered .before .before .before .before in
     let told = packed .before .args in
     λ s good e lens.
-    prepared s _ _ _ _ _ _ _ _ (tables-of s good (told .grammar) e (packed .pack-rules .result) (lowered .least-leaves .result)
-    (told .reached)
-    (packed .pack-rules .ensures) (lowered .least-leaves .ensures) lens) (carded .cards-of .ensures) (grouped .group .ensures)
-    (laid .lay-sections .ensures)
+    let tables =
+    tables-of s good (told .grammar) e (packed .pack-rules .result) (lowered .least-leaves .result) (told .reached)
+    (packed .pack-rules .ensures) (lowered .least-leaves .ensures) lens in
+    let held : RulesHeld s (packed .pack-rules .result) = record { good = good; rules = tables .rules-are } in
+    prepared s _ _ _ _ _ _ _ _ tables (grouped .by-head .ensures s held (tables .n-is)) (laid .lay-sections .ensures)
 
 pub prepare-spec : {M : Type 1} → statement M
 prepare-spec =
@@ -84,9 +74,7 @@ prepare-spec =
     pack-rules-requires
     cast-heads
     least-leaves-requires
-    slice-aggregate-cards-of
-    cards-of-requires
-    group-requires
+    by-head-requires
     slice-aggregate-lay-sections
     lay-sections-requires
     returns)

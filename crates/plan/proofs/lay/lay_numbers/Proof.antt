@@ -81,7 +81,12 @@ slice-write-plan-4 : tie.Need-slice-write-plan-4 Inv-loop μ-loop
 slice-write-plan-4 c =
     let told = start-of c .args in
     let inside : lengthCountAt < length (with-heads c) =
-    omega (arith, plan-size c, length-set (laid-plan c) multiplierAt (told .a), length-set (with-multiplier c) nonterminalsAt (told .heads)) in
+    omega (
+      arith,
+      plan-size c,
+      length-set (laid-plan c) multiplierAt (told .a),
+      length-set (with-multiplier c) nonterminalsAt (told .heads),
+    ) in
     inside
 
 same-length : tie.Need-same-length Inv-loop μ-loop

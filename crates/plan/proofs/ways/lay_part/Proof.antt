@@ -1,5 +1,5 @@
 -- `lay_part` meets its contract: the test tells whether the part is the last. Assumes nothing.
-use Prim.Native.Nat.{_+_, _-_, _*_}
+use Prim.Native.Nat.{_+_, _*_}
 use native.Mathlib.Omega.{arith}
 use mathlib.Core.Path.{refl}
 use Rattle.plan.proofs.WaySteps.{inner-ways, last-ways}

@@ -33,7 +33,7 @@ pub +part-one+rule-one+solve-one-spec : {M : Type 1} → statement M
     λ t. solve-one-lts.spec (solve-needs.calls t) (solve-one-at t) solve-one.Post solve-needs.Inv-loop solve-needs.μ-loop
     (solve-needs.length-requires t) (solve-needs.mul-d t) (solve-needs.element-copy-out-d t) (solve-needs.sub-d t)
     (solve-needs.last-division-requires t) (solve-needs.leaf-one-requires t) (solve-needs.first-division-requires t)
-    (solve-needs.loop-holds t) (solve-needs.placed-rule-requires t) (solve-needs.split-placed-requires t) (solve-needs.add-n t)
+    (solve-needs.loop-holds t) (solve-needs.rule-at-place-requires t) (solve-needs.split-at-place-requires t) (solve-needs.add-n t)
     (solve-needs.rule-one-requires t)
     (solve-needs.loop-less t) (solve-needs.loop-again t) (solve-needs.loop-less-2 t) (solve-needs.loop-again-2 t)
     (solve-needs.add-store t) (solve-needs.store-requires t) (solve-needs.same-length t) (solve-needs.returns t)

@@ -51,8 +51,8 @@ pub +fresh+lift+part+parts+solve-spec : {M : Type 1} → statement M
     (parts-needs.loop-less t) (parts-needs.loop-again t) (parts-needs.same-length t) (parts-needs.returns t))
     λ t. solve-lts.spec (solve-needs.calls t) (solve-at t) solve.Post solve-needs.Inv-loop solve-needs.μ-loop
     (solve-needs.length-requires t) (solve-needs.last-division-requires t) (solve-needs.leaf-row-requires t)
-    (solve-needs.first-division-requires t) (solve-needs.loop-holds t) (solve-needs.placed-rule-requires t)
-    (solve-needs.split-placed-requires t) (solve-needs.add-n t)
+    (solve-needs.first-division-requires t) (solve-needs.loop-holds t) (solve-needs.rule-at-place-requires t)
+    (solve-needs.split-at-place-requires t) (solve-needs.add-n t)
     (solve-needs.parts-requires t) (solve-needs.cost-requires t) (solve-needs.relax-rule-requires t) (solve-needs.loop-less t)
     (solve-needs.loop-again t) (solve-needs.loop-less-2 t) (solve-needs.loop-again-2 t) (solve-needs.add-store t)
     (solve-needs.store-requires t) (solve-needs.same-length t) (solve-needs.returns t)

@@ -17,8 +17,8 @@ use Rattle.rows.proofs.one.+part_one+rule_one+solve_one.Lts-solve_one a
 use Rattle.plan.proofs.first_division.Reads as first-division-reads
 use Rattle.plan.proofs.last_division.Reads as last-division-reads
 use Rattle.plan.proofs.length.Reads as length-reads
-use Rattle.plan.proofs.placed_rule.Reads as placed-rule-reads
-use Rattle.plan.proofs.split_placed.Reads as split-placed-reads
+use Rattle.plan.proofs.rule_at_place.Reads as rule-at-place-reads
+use Rattle.plan.proofs.split_at_place.Reads as split-at-place-reads
 use Rattle.rows.proofs.one.leaf_one.Reads as leaf-one-reads
 use Rattle.rows.proofs.slots.store.Reads as store-reads
 use Rattle.rows.proofs.one.+part_one+rule_one+solve_one.Proof.Measures.{rule-one-below, solve-one-at}
@@ -43,10 +43,10 @@ module _ (t : ℕ) where
     leaf-one-reads.Learnt,
     first-division-reads.Asked,
     first-division-reads.Learnt,
-    placed-rule-reads.Asked,
-    placed-rule-reads.Learnt,
-    split-placed-reads.Asked,
-    split-placed-reads.Learnt,
+    rule-at-place-reads.Asked,
+    rule-at-place-reads.Learnt,
+    split-at-place-reads.Asked,
+    split-at-place-reads.Learnt,
     rule-one-below t,
     rule-one.Post,
     store-reads.Asked,
@@ -87,15 +87,15 @@ module _ (t : ℕ) where
       let first-division = c .first-division in
       λ s e. rules-begin (e .entry) (first-division .ensures) (leaf-one-told e (length .ensures) refl (leaf-one .ensures))
 
-  pub placed-rule-requires : solve-one-lts.Need-placed-rule-requires calls (solve-one-at t) solve-one.Post Inv-loop μ-loop
-  placed-rule-requires c κs =
+  pub rule-at-place-requires : solve-one-lts.Need-rule-at-place-requires calls (solve-one-at t) solve-one.Post Inv-loop μ-loop
+  rule-at-place-requires c κs =
       let at-loop = c .before in
       let at-last-division = at-loop .before .before .before in
       let e = at-last-division .before .before .before .before .before .pre .1 .1 in
       place-in (e .entry) (at-loop .loop .inv _ e) (at-last-division .last-division .ensures) (c .loop-test .taken)
 
-  pub split-placed-requires : solve-one-lts.Need-split-placed-requires calls (solve-one-at t) solve-one.Post Inv-loop μ-loop
-  split-placed-requires c κs =
+  pub split-at-place-requires : solve-one-lts.Need-split-at-place-requires calls (solve-one-at t) solve-one.Post Inv-loop μ-loop
+  split-at-place-requires c κs =
       let at-loop = c .before .before in
       let at-last-division = at-loop .before .before .before in
       let e = at-last-division .before .before .before .before .before .pre .1 .1 in
@@ -114,9 +114,9 @@ module _ (t : ℕ) where
   pub rule-one-requires : solve-one-lts.Need-rule-one-requires calls (solve-one-at t) solve-one.Post Inv-loop μ-loop
   rule-one-requires c κs =
       let at-if1 = c .before in
-      let at-split-placed = at-if1 .before in
-      let at-placed-rule = at-split-placed .before in
-      let at-loop = at-placed-rule .before .before in
+      let at-split = at-if1 .before in
+      let at-rule-at-place = at-split .before in
+      let at-loop = at-rule-at-place .before .before in
       let at-last-division = at-loop .before .before .before in
       let at-length = at-last-division .before .before .before in
       let start = at-length .before .before in
@@ -124,9 +124,9 @@ module _ (t : ℕ) where
       let t = e .entry .entry .stands in
       let done = at-loop .loop .inv _ e in
       let k = at-last-division .last-division .ensures in
-      let less = at-placed-rule .before .loop-test .taken in
-      let is = at-placed-rule .placed-rule .ensures in
-      let split = at-split-placed .split-placed .ensures .1 _ _ (t .in-bar .prepared) (division-at (e .entry) done k less) (t .length-in) in
+      let less = at-rule-at-place .before .loop-test .taken in
+      let is = at-rule-at-place .rule-at-place .ensures in
+      let split = at-split .split-at-place .ensures .1 _ _ (t .in-bar .prepared) (division-at (e .entry) done k less) (t .length-in) in
       let d = split-told (e .entry) done k less is split .divides (at-if1 .if1 .taken) in
       let asked = rule-asked e (at-length .length .ensures) refl d (rules-here (e .entry) done k less is) in
       (omega (arith, start .pre .0, parts-shorter (e .entry) d), (start .pre .1 .0, asked))
@@ -138,18 +138,18 @@ module _ (t : ℕ) where
   loop-again c =
       let at-rule-one = c .before .before in
       let at-if1 = at-rule-one .before .before in
-      let at-split-placed = at-if1 .before in
-      let at-placed-rule = at-split-placed .before in
-      let at-loop = at-placed-rule .before .before in
+      let at-split = at-if1 .before in
+      let at-rule-at-place = at-split .before in
+      let at-loop = at-rule-at-place .before .before in
       let at-last-division = at-loop .before .before .before in
       let at-length = at-last-division .before .before .before in
       λ s e.
       let t = e .entry .entry .stands in
       let done = at-loop .loop .inv s e in
       let k = at-last-division .last-division .ensures in
-      let less = at-placed-rule .before .loop-test .taken in
-      let is = at-placed-rule .placed-rule .ensures in
-      let split = at-split-placed .split-placed .ensures .1 s _ (t .in-bar .prepared) (division-at (e .entry) done k less) (t .length-in) in
+      let less = at-rule-at-place .before .loop-test .taken in
+      let is = at-rule-at-place .rule-at-place .ensures in
+      let split = at-split .split-at-place .ensures .1 s _ (t .in-bar .prepared) (division-at (e .entry) done k less) (t .length-in) in
       let d = split-told (e .entry) done k less is split .divides (at-if1 .if1 .taken) in
       rules-next (e .entry) done k less is
       (at-rule-one .rule-one .ensures s
@@ -160,17 +160,17 @@ module _ (t : ℕ) where
 
   pub loop-again-2 : solve-one-lts.Need-loop-again-2 calls (solve-one-at t) solve-one.Post Inv-loop μ-loop
   loop-again-2 c =
-      let at-split-placed = c .before in
-      let at-placed-rule = at-split-placed .before in
-      let at-loop = at-placed-rule .before .before in
+      let at-split = c .before in
+      let at-rule-at-place = at-split .before in
+      let at-loop = at-rule-at-place .before .before in
       let at-last-division = at-loop .before .before .before in
       λ s e.
       let t = e .entry .entry .stands in
       let done = at-loop .loop .inv s e in
       let k = at-last-division .last-division .ensures in
-      let less = at-placed-rule .before .loop-test .taken in
-      let is = at-placed-rule .placed-rule .ensures in
-      let split = at-split-placed .split-placed .ensures .1 s _ (t .in-bar .prepared) (division-at (e .entry) done k less) (t .length-in) in
+      let less = at-rule-at-place .before .loop-test .taken in
+      let is = at-rule-at-place .rule-at-place .ensures in
+      let split = at-split .split-at-place .ensures .1 s _ (t .in-bar .prepared) (division-at (e .entry) done k less) (t .length-in) in
       rules-next (e .entry) done k less is
       (ruled-idle s _ _ _ (rules-here (e .entry) done k less is) (split-told (e .entry) done k less is split .idle (c .if1 .left)))
 

@@ -1,6 +1,5 @@
 -- `solve`: the invariant of the loop is that `best` is the lesser of what is packed of a leaf and of the divisions before place n, which
--- are
--- those of the first r rules (`Done`), and that the table is sound.
+-- are those of the first r rules (`Done`), and that the table is sound.
 use Prim.Native.Nat.{ℕ, _-_}
 use mathlib.Core.Path.{sym, _∙_}
 use native.Mathlib.Omega.{arith}
@@ -20,8 +19,8 @@ use Rattle.plan.proofs.cost.Reads as cost-reads
 use Rattle.plan.proofs.first_division.Reads as first-division-reads
 use Rattle.plan.proofs.last_division.Reads as last-division-reads
 use Rattle.plan.proofs.length.Reads as length-reads
-use Rattle.plan.proofs.placed_rule.Reads as placed-rule-reads
-use Rattle.plan.proofs.split_placed.Reads as split-placed-reads
+use Rattle.plan.proofs.rule_at_place.Reads as rule-at-place-reads
+use Rattle.plan.proofs.split_at_place.Reads as split-at-place-reads
 use Rattle.rows.proofs.leaf.leaf_row.Reads as leaf-row-reads
 use Rattle.rows.proofs.slots.store.Reads as store-reads
 use Rattle.rows.proofs.vector.relax_rule.Reads as relax-rule-reads
@@ -46,10 +45,10 @@ module _ (t : ℕ) where
     leaf-row-reads.Learnt,
     first-division-reads.Asked,
     first-division-reads.Learnt,
-    placed-rule-reads.Asked,
-    placed-rule-reads.Learnt,
-    split-placed-reads.Asked,
-    split-placed-reads.Learnt,
+    rule-at-place-reads.Asked,
+    rule-at-place-reads.Learnt,
+    split-at-place-reads.Asked,
+    split-at-place-reads.Learnt,
     parts-below t,
     parts.Post,
     cost-reads.Asked,
@@ -85,15 +84,15 @@ module _ (t : ℕ) where
       let told = leaf-told (e .entry) (length .ensures) (c .before .leaf-row .ensures s (leaf-entry (e .entry) (length .ensures))) in
       rules-begin e (c .first-division .ensures) (ruled-none _ _ told (e .entry .sound))
 
-  pub placed-rule-requires : solve-lts.Need-placed-rule-requires calls (solve-at t) solve.Post Inv-loop μ-loop
-  placed-rule-requires c κs =
+  pub rule-at-place-requires : solve-lts.Need-rule-at-place-requires calls (solve-at t) solve.Post Inv-loop μ-loop
+  rule-at-place-requires c κs =
       let at-loop = c .before in
       let at-last-division = at-loop .before .before .before in
       let e = at-last-division .before .before .before .pre .1 .1 in
       place-in e (at-loop .loop .inv _ e) (at-last-division .last-division .ensures) (c .loop-test .taken)
 
-  pub split-placed-requires : solve-lts.Need-split-placed-requires calls (solve-at t) solve.Post Inv-loop μ-loop
-  split-placed-requires c κs =
+  pub split-at-place-requires : solve-lts.Need-split-at-place-requires calls (solve-at t) solve.Post Inv-loop μ-loop
+  split-at-place-requires c κs =
       let at-loop = c .before .before in
       let at-last-division = at-loop .before .before .before in
       let e = at-last-division .before .before .before .pre .1 .1 in
@@ -110,29 +109,29 @@ module _ (t : ℕ) where
   pub parts-requires : solve-lts.Need-parts-requires calls (solve-at t) solve.Post Inv-loop μ-loop
   parts-requires c κs =
       let at-if1 = c .before in
-      let at-split-placed = at-if1 .before in
-      let at-placed-rule = at-split-placed .before in
-      let at-loop = at-placed-rule .before .before in
+      let at-split = at-if1 .before in
+      let at-rule-at-place = at-split .before in
+      let at-loop = at-rule-at-place .before .before in
       let at-last-division = at-loop .before .before .before in
       let start = at-last-division .before .before .before in
       let e = start .pre .1 .1 in
       let t = e .entry .stands in
       let done = at-loop .loop .inv _ e in
       let k = at-last-division .last-division .ensures in
-      let less = at-placed-rule .before .loop-test .taken in
-      let split = at-split-placed .split-placed .ensures .1 _ _ (t .in-bar .prepared) (division-at e done k less) (t .length-in) in
-      let d = split-told e done k less (at-placed-rule .placed-rule .ensures) split .divides (at-if1 .if1 .taken) in
+      let less = at-rule-at-place .before .loop-test .taken in
+      let split = at-split .split-at-place .ensures .1 _ _ (t .in-bar .prepared) (division-at e done k less) (t .length-in) in
+      let d = split-told e done k less (at-rule-at-place .rule-at-place .ensures) split .divides (at-if1 .if1 .taken) in
       (omega (arith, start .pre .0, parts-shorter e d), (start .pre .1 .0, parts-entry e d (done .ruled .sound)))
 
   pub cost-requires : solve-lts.Need-cost-requires calls (solve-at t) solve.Post Inv-loop μ-loop
   cost-requires c κs =
-      let at-placed-rule = c .before .before .before .before .before .before in
-      let at-loop = at-placed-rule .before .before in
+      let at-rule-at-place = c .before .before .before .before .before .before in
+      let at-loop = at-rule-at-place .before .before in
       let at-last-division = at-loop .before .before .before in
       let start = at-last-division .before .before .before in
       let e = start .pre .1 .1 in
-      let less = at-placed-rule .before .loop-test .taken in (
-        rule-below e (at-loop .loop .inv _ e) (at-last-division .last-division .ensures) less (at-placed-rule .placed-rule .ensures),
+      let less = at-rule-at-place .before .loop-test .taken in (
+        rule-below e (at-loop .loop .inv _ e) (at-last-division .last-division .ensures) less (at-rule-at-place .rule-at-place .ensures),
         (start .pre .1 .0, e .entry .stands .in-bar .prepared),
       )
 
@@ -140,18 +139,18 @@ module _ (t : ℕ) where
   relax-rule-requires c κs =
       let at-parts = c .before .before .before in
       let at-if1 = at-parts .before .before in
-      let at-split-placed = at-if1 .before in
-      let at-placed-rule = at-split-placed .before in
-      let at-loop = at-placed-rule .before .before in
+      let at-split = at-if1 .before in
+      let at-rule-at-place = at-split .before in
+      let at-loop = at-rule-at-place .before .before in
       let at-last-division = at-loop .before .before .before in
       let start = at-last-division .before .before .before in
       let e = start .pre .1 .1 in
       let t = e .entry .stands in
       let done = at-loop .loop .inv _ e in
       let k = at-last-division .last-division .ensures in
-      let less = at-placed-rule .before .loop-test .taken in
-      let is = at-placed-rule .placed-rule .ensures in
-      let split = at-split-placed .split-placed .ensures .1 _ _ (t .in-bar .prepared) (division-at e done k less) (t .length-in) in
+      let less = at-rule-at-place .before .loop-test .taken in
+      let is = at-rule-at-place .rule-at-place .ensures in
+      let split = at-split .split-at-place .ensures .1 _ _ (t .in-bar .prepared) (division-at e done k less) (t .length-in) in
       let d = split-told e done k less is split .divides (at-if1 .if1 .taken) in (
         omega (arith, c .cost .ensures .0),
         omega (arith, rule-below e done k less is),
@@ -166,17 +165,17 @@ module _ (t : ℕ) where
       let at-cost = c .before in
       let at-parts = at-cost .before .before .before in
       let at-if1 = at-parts .before .before in
-      let at-split-placed = at-if1 .before in
-      let at-placed-rule = at-split-placed .before in
-      let at-loop = at-placed-rule .before .before in
+      let at-split = at-if1 .before in
+      let at-rule-at-place = at-split .before in
+      let at-loop = at-rule-at-place .before .before in
       let at-last-division = at-loop .before .before .before in
       λ s e.
       let t = e .entry .stands in
       let done = at-loop .loop .inv s e in
       let k = at-last-division .last-division .ensures in
-      let less = at-placed-rule .before .loop-test .taken in
-      let is = at-placed-rule .placed-rule .ensures in
-      let split = at-split-placed .split-placed .ensures .1 s _ (t .in-bar .prepared) (division-at e done k less) (t .length-in) in
+      let less = at-rule-at-place .before .loop-test .taken in
+      let is = at-rule-at-place .rule-at-place .ensures in
+      let split = at-split .split-at-place .ensures .1 s _ (t .in-bar .prepared) (division-at e done k less) (t .length-in) in
       let d = split-told e done k less is split .divides (at-if1 .if1 .taken) in
       rules-next e done k less is
       (ruled-more s _ _ _ (rules-here e done k less is) (t .in-bar .prepared .good) d (e .inhabited)
@@ -188,17 +187,17 @@ module _ (t : ℕ) where
 
   pub loop-again-2 : solve-lts.Need-loop-again-2 calls (solve-at t) solve.Post Inv-loop μ-loop
   loop-again-2 c =
-      let at-split-placed = c .before in
-      let at-placed-rule = at-split-placed .before in
-      let at-loop = at-placed-rule .before .before in
+      let at-split = c .before in
+      let at-rule-at-place = at-split .before in
+      let at-loop = at-rule-at-place .before .before in
       let at-last-division = at-loop .before .before .before in
       λ s e.
       let t = e .entry .stands in
       let done = at-loop .loop .inv s e in
       let k = at-last-division .last-division .ensures in
-      let less = at-placed-rule .before .loop-test .taken in
-      let is = at-placed-rule .placed-rule .ensures in
-      let split = at-split-placed .split-placed .ensures .1 s _ (t .in-bar .prepared) (division-at e done k less) (t .length-in) in
+      let less = at-rule-at-place .before .loop-test .taken in
+      let is = at-rule-at-place .rule-at-place .ensures in
+      let split = at-split .split-at-place .ensures .1 s _ (t .in-bar .prepared) (division-at e done k less) (t .length-in) in
       rules-next e done k less is
       (ruled-idle s _ _ _ (rules-here e done k less is) (split-told e done k less is split .idle (c .if1 .left)))
 
