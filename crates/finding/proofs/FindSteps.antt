@@ -77,7 +77,8 @@ module _ {s : Sheet} {g : GrammarTable} {p : PlayingTable} (h : SheetHeld s g p)
     search-pre t = record { held = h; tree-size = omega (arith, room-required); work-size = enough }
 
 -- what the search told
-module _ {s : Sheet} {g : GrammarTable} {p : PlayingTable} {tree work : List ℕ} (entry : SearchPre s g p tree work) (after clear : List ℕ)
+module _ {s : Sheet} {g : GrammarTable} {p : PlayingTable} {tree work : List ℕ} (entry : SearchPre s g p tree work)
+    (after clear : List ℕ)
   where
     pub nothing-found : Searched s tree after work clear NoTree → (r : Priced) → r ≡ pricedOf (refused 11 0)
         → Gives (findSheet s (length tree) (length work)) tree after work clear r
@@ -150,4 +151,5 @@ module _ (text tree work : List ℕ) (r : Reading) (e : r ≡ readingOf (readShe
       → Finds text tree treeAfter work workAfter x
   unfolding findText
   text-found treeAfter workAfter z f =
-      on-held text r e (λ s. findSheet s (length tree) (length work)) (λ (o : Outcome Search). Gives o tree treeAfter work workAfter x) z f
+      on-held text r e (λ s. findSheet s (length tree) (length work))
+      (λ (o : Outcome Search). Gives o tree treeAfter work workAfter x) z f

@@ -68,9 +68,11 @@ few-lengths h t e =
     omega (arith, ap (λ (x : LengthTable). x .count) e, count-length (h .rules), length-count-most (h .rules))
 
 -- what the calls told
-pub tables-of : (s : Sheet) → GoodRules (s .grammar) → (g : GrammarTable) → g ≡ grammarTable (s .grammar) → (rules leaves : List ℕ)
+pub tables-of : (s : Sheet) → GoodRules (s .grammar) → (g : GrammarTable) → g ≡ grammarTable (s .grammar)
+    → (rules leaves : List ℕ)
     (reached : LengthTable) → ((h : Grammar) → g ≡ grammarTable h → PackedRules h rules)
-    → ((u : Sheet) → RulesHeld u rules → g .multiplier ≡ u .grammar .multiplier → g .count ≡ ruleCount u → PackedLeaves u leaves)
+    → ((u : Sheet) → RulesHeld u rules → g .multiplier ≡ u .grammar .multiplier → g .count ≡ ruleCount u
+    → PackedLeaves u leaves)
     → reached ≡ lengthTable (lengthsOf (s .grammar .rules))
     → TablesOf s rules (g .children) leaves (reached .cells) (g .multiplier) (g .nonterminals) (reached .count) (g .count)
 unfolding grammarTable lengthTable
@@ -90,7 +92,8 @@ tables-of s good g e rules leaves reached packs lowers lens =
       n-is = counted;
     }
 
-module _ (s : Sheet) (rules children leaves lens : List ℕ) (a q count n : ℕ) (t : TablesOf s rules children leaves lens a q count n) where
+module _ (s : Sheet) (rules children leaves lens : List ℕ) (a q count n : ℕ)
+    (t : TablesOf s rules children leaves lens a q count n) where
   count-lengths : count ≡ lengths s
   count-lengths = t .count-is ∙ sym (count-length (s .grammar .rules))
 

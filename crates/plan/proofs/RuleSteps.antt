@@ -118,7 +118,8 @@ module _ (s : Sheet) (plan : List ℕ) (r : ℕ) (rule : held.Rule) (below : r <
 
   pub other-head : (h w k q l : ℕ) → rule ≡ Division h w k → (h ≡ q → ⊥) → SplitAt s q l r noSplit
   other-head h w k q l e f =
-      idle-split q l (λ v ks o. let same : Division h w k ≡ Division q v (length ks) = sym (cell _ e) ∙ ap cellOf o in absurd (f (cc same)))
+      idle-split q l
+      (λ v ks o. let same : Division h w k ≡ Division q v (length ks) = sym (cell _ e) ∙ ap cellOf o in absurd (f (cc same)))
 
   pub same-head : (h w k q l : ℕ) (x : Split) → rule ≡ Division h w k → h ≡ q → PartsOf s l k x → l < lengths s
       → SplitAt s q l r x

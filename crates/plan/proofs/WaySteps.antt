@@ -39,7 +39,8 @@ module _ {s : Sheet} {children leaves : List ℕ} {r k : ℕ} {ks : List ℕ} (d
       let t = d .tables in
       let below : i < length ks = omega (arith, d .count) in
       let child : getD children (8 * r + i) 0 ≡ getD ks i 0 =
-      ap (λ (xs : List ℕ). getD xs (8 * r + i) 0) (t .children-are) ∙ child-in s (t .good) r (d .head) (d .weight) ks (d .rule) i below in
+      ap (λ (xs : List ℕ). getD xs (8 * r + i) 0) (t .children-are)
+      ∙ child-in s (t .good) r (d .head) (d .weight) ks (d .rule) i below in
       let kid : getD ks i 0 < s .grammar .nonterminals =
       every-in (λ (z : ℕ). z < s .grammar .nonterminals) ks i 0 below
       (good-division s (t .good) r (d .head) (d .weight) ks (d .rule) .parts) in

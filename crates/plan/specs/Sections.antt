@@ -28,7 +28,8 @@ PackedLeaves s leaves = (q n : ℕ) → q < 16 → n < kinds → getD leaves (ki
 -- the same of the first i rules
 abbrev pub PackedUpto : Sheet → List ℕ → ℕ → Type 0
 PackedUpto s leaves i =
-    (q n : ℕ) → q < 16 → n < kinds → getD leaves (kinds * q + n) 0 ≡ packed NONE (λ r. leafCost (s .grammar .multiplier) q n (ruleAt s r)) i
+    (q n : ℕ) → q < 16 → n < kinds
+    → getD leaves (kinds * q + n) 0 ≡ packed NONE (λ r. leafCost (s .grammar .multiplier) q n (ruleAt s r)) i
 
 -- of the first `count` cells, h is the place of one that is a k-th of the cell at l; where there is none, h is past them
 pub record PartAmong (lens : List ℕ) (count l k h : ℕ) : Type 0 where

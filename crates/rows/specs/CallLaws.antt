@@ -35,7 +35,8 @@ abbrev pub PlaceOf : List ℕ → Bar → (q l from c at : ℕ) → Type 0
 PlaceOf plan bar q l from c at =
     (s : Sheet) → SlotEntry s plan bar q l from c → at ≡ 4 * slotIn s (bar .number) q l (from - bar .first) c
 
-module _ {s : Sheet} {plan units rows : List ℕ} {bar : Bar} {q l : ℕ} {left : Units} {from : ℕ} {v : List ℕ} {zero a c : ℕ} {o : List ℕ}
+module _ {s : Sheet} {plan units rows : List ℕ} {bar : Bar} {q l : ℕ} {left : Units} {from : ℕ} {v : List ℕ} {zero a c : ℕ}
+    {o : List ℕ}
     (h : LiftEntry s plan units rows bar q l left from v zero a c o) where
   pub lift-slot : SlotEntry s plan bar q l from c
   lift-slot = slot-entry (h .stands) (h .inhabited) (h .few)
@@ -170,7 +171,8 @@ module _ {s : Sheet} {plan units rows : List ℕ} {bar : Bar} {q l : ℕ} {left 
       g : Item
       g = itemAt s q l left
 
-      cell : (x : ℕ) → x < 4 → packedCell s g c x ≡ min (64 * NONE) (packedLeaf s q (token c (firstAt s (left .0))) + 64 * only NONE 0 x)
+      cell : (x : ℕ) → x < 4
+          → packedCell s g c x ≡ min (64 * NONE) (packedLeaf s q (token c (firstAt s (left .0))) + 64 * only NONE 0 x)
       cell x h =
           packed-cell-empty s (e .stands .in-bar .prepared .good) g c x (e .few) h (stands-none (e .stands) (omega (arith, same-len)))
 

@@ -92,7 +92,8 @@ module _ (s : Sheet) (good : GoodOnsets (s .playing)) (l n : ℕ) (near : l + n 
       j : ℕ
       j = (unit - l) / p
 
-      go : ((unit - l) / p < k) × (l + (unit - l) / p * p ≤ unit) × (unit < l + (unit - l) / p * p + p) → OneAt s l p k ((unit - l) / p)
+      go : ((unit - l) / p < k) × (l + (unit - l) / p * p ≤ unit) × (unit < l + (unit - l) / p * p + p)
+          → OneAt s l p k ((unit - l) / p)
       go (a, b, c) = record {
         begun = begun;
         within = a;
@@ -112,7 +113,8 @@ module _ (s : Sheet) (good : GoodOnsets (s .playing)) (l n : ℕ) (near : l + n 
           parts : onsetsIn s l n ≡ onsetsIn s l (j * p) + onsetsIn s (l + j * p) (p + (n - (j * p + p)))
           parts = ap (onsetsIn s l) (omega (arith, most)) ∙ onsets-add s l (j * p) (p + (n - (j * p + p)))
 
-          behind : onsetsIn s (l + j * p) (p + (n - (j * p + p))) ≡ onsetsIn s (l + j * p) p + onsetsIn s (l + j * p + p) (n - (j * p + p))
+          behind : onsetsIn s (l + j * p) (p + (n - (j * p + p)))
+              ≡ onsetsIn s (l + j * p) p + onsetsIn s (l + j * p + p) (n - (j * p + p))
           behind = onsets-add s (l + j * p) p (n - (j * p + p))
 
   -- ---- as a leaf
@@ -202,7 +204,8 @@ module _ (s : Sheet) where
       first : besideAt s (x ∷ (xs ++ (k ∷ ys))) (suc (length xs)) n 0 ≡ leastLeaf s x (token 0 1)
       first = rw (ne-eqb 0 (suc (length xs)) (λ e. omega arith), ne-eqb 0 (suc (length xs) + 1) (λ e. omega arith))
 
-      further : (i : ℕ) → besideAt s (x ∷ (xs ++ (k ∷ ys))) (suc (length xs)) n (suc i) ≡ besideAt s (xs ++ (k ∷ ys)) (length xs) n i
+      further : (i : ℕ)
+          → besideAt s (x ∷ (xs ++ (k ∷ ys))) (suc (length xs)) n (suc i) ≡ besideAt s (xs ++ (k ∷ ys)) (length xs) n i
       further i = rw (
         eqb-same (suc i) (suc (length xs)) i (length xs) (λ e. omega arith) (λ e. omega arith),
         eqb-same (suc i) (suc (length xs) + 1) i (length xs + 1) (λ e. omega arith) (λ e. omega arith),

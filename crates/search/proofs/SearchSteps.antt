@@ -47,7 +47,8 @@ module _ {s : Sheet} {plan us rows tree : List ℕ} {start count : ℕ} (h : Par
   tree-most = omega (arith, h .onsets .good .sixty-four, h .onsets .good .most)
 
   -- a table of zeros claims nothing
-  pub parse-forward : {now order bytes roots vectors : List ℕ} {n : ℕ} → n ≡ length rows → Filled (λ _. 0) rows now n → ByArity s order
+  pub parse-forward : {now order bytes roots vectors : List ℕ} {n : ℕ} → n ≡ length rows → Filled (λ _. 0) rows now n
+      → ByArity s order
       → length roots ≡ 1024 → length vectors ≡ 260 → length bytes ≡ treeMost
       → ForwardPre s plan us order now bytes roots vectors start count
   parse-forward {now} en t ordered er ev eb = record {
@@ -167,8 +168,10 @@ module _ {s : Sheet} {grammar : GrammarTable} {playing : PlayingTable} {tree wor
   unfolding grammarTable
   start-is = ap (λ (g : GrammarTable). g .start) (h .held .grammar)
 
-  pub parse-entry : (plan us : List ℕ) (cells start count : ℕ) → Prepared s plan → us ≡ unitCells (s .playing) → cells ≡ rowCells s
-      → cells ≤ length work → start ≡ grammar .start → count ≡ playing .bars → ParsePre s plan us (take cells work) tree start count
+  pub parse-entry : (plan us : List ℕ) (cells start count : ℕ) → Prepared s plan → us ≡ unitCells (s .playing)
+      → cells ≡ rowCells s
+      → cells ≤ length work → start ≡ grammar .start → count ≡ playing .bars
+      → ParsePre s plan us (take cells work) tree start count
   parse-entry plan us cells start count ep eu ec fit es eb =
       record {
         prepared = ep;

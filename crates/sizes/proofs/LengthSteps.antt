@@ -41,7 +41,8 @@ module _ (flags : List Bool) (cells : List ℕ) (count j : ℕ) (so-far : Collec
   collected-all l h f =
       let c = so-far h f in
       let all : lengthsOf (h .rules) ≡ c .found =
-      c .rest ∙ ap (λ (ds : List ℕ). collect (h .rules) ds (c .found)) (drop-of-length-le divisors {i = j} (omega (arith, divisors-length)))
+      c .rest ∙ ap (λ (ds : List ℕ). collect (h .rules) ds (c .found)) (drop-of-length-le divisors {i = j}
+      (omega (arith, divisors-length)))
       ∙ collect-end (h .rules) (c .found) in
       rw (all, c .counted, ← c .held)
 

@@ -80,7 +80,8 @@ module _ (rs : List Rule) where
       simp (some-arity (λ (k : ℕ). hasArity k rs && member (k * d) found) k l m (simp (a, e)), or-true)
 
   -- d is a length, and is found
-  pub collect-in : (d : ℕ) (ds found : List ℕ) → reached rs found d ≡ true → collect rs (d ∷ ds) found ≡ collect rs ds (found ++ (d ∷ []))
+  pub collect-in : (d : ℕ) (ds found : List ℕ) → reached rs found d ≡ true
+      → collect rs (d ∷ ds) found ≡ collect rs ds (found ++ (d ∷ []))
   unfolding collect
   collect-in d ds found e = simp (collect, e)
 
@@ -95,7 +96,8 @@ module _ (rs : List Rule) where
   collect-end found = refl
 
   -- a fact of the lengths found, by whether d is one
-  by-reached : (P : List ℕ → Type 0) (d : ℕ) (ds found : List ℕ) → (reached rs found d ≡ true → P (collect rs ds (found ++ (d ∷ []))))
+  by-reached : (P : List ℕ → Type 0) (d : ℕ) (ds found : List ℕ)
+      → (reached rs found d ≡ true → P (collect rs ds (found ++ (d ∷ []))))
       → (reached rs found d ≡ false → P (collect rs ds found)) → P (collect rs (d ∷ ds) found)
   by-reached P d ds found f g = go (reached rs found d) refl
     where
@@ -113,7 +115,8 @@ module _ (rs : List Rule) where
       (λ e. collect-keeps ds found x m)
 
   -- what is found in the end was found before or is among the divisors looked at
-  collect-from : (ds found : List ℕ) (x : ℕ) → member x (collect rs ds found) ≡ true → (member x found ≡ true) ⊎ (member x ds ≡ true)
+  collect-from : (ds found : List ℕ) (x : ℕ) → member x (collect rs ds found) ≡ true
+      → (member x found ≡ true) ⊎ (member x ds ≡ true)
   unfolding collect
   collect-from [] found x m = inl m
   collect-from (d ∷ ds) found x m =
@@ -145,7 +148,8 @@ module _ (rs : List Rule) where
       (λ e. collect-falls ds found (falls-skip found d ds f))
 
   -- a divisor is found where k times it is, which is larger and so was looked at before
-  pub collect-part : (ds found : List ℕ) (k y : ℕ) → Falls ds → hasArity k rs ≡ true → 2 ≤ k → k ≤ 8 → 0 < y → member y ds ≡ true
+  pub collect-part : (ds found : List ℕ) (k y : ℕ) → Falls ds → hasArity k rs ≡ true → 2 ≤ k → k ≤ 8 → 0 < y
+      → member y ds ≡ true
       → member (k * y) (collect rs ds found) ≡ true → member y (collect rs ds found) ≡ true
   unfolding collect
   collect-part [] found k y f a l m p h n = absurd (no-member y h)

@@ -138,10 +138,12 @@ member-without x z (y ∷ ys) n m =
     (⊎-elim (λ q. member-here z y _ q) (λ q. member-there z y _ (member-without x z ys n q)) (member-cases z y ys m)))
 
 -- a list that names each of its elements once is no longer than a list that has them all
-pub once-shorter : (xs ys : List ℕ) → Once xs → ((x : ℕ) → member x xs ≡ true → member x ys ≡ true) → length xs ≤ length ys
+pub once-shorter : (xs ys : List ℕ) → Once xs → ((x : ℕ) → member x xs ≡ true → member x ys ≡ true)
+    → length xs ≤ length ys
 once-shorter [] ys o f = omega arith
 once-shorter (x ∷ xs) ys o f =
     let rest : (z : ℕ) → member z xs ≡ true → member z (without x ys) ≡ true =
-    λ z m. member-without x z ys (λ e. false≢true (sym (o .0) ∙ subst (λ (k : ℕ). member k xs ≡ true) e m)) (f z (member-there z x xs m)) in
+    λ z m. member-without x z ys (λ e. false≢true (sym (o .0) ∙ subst (λ (k : ℕ). member k xs ≡ true) e m)) (f z
+    (member-there z x xs m)) in
     let shorter : length xs ≤ length (without x ys) = once-shorter xs (without x ys) (o .1) rest in
     omega (arith, length-without x ys (f x (member-here x x xs refl)))

@@ -147,7 +147,9 @@ fn is_reached(
 // The lengths that the divisions of a grammar reach. Lengths and divisors fall, so that for each arity one pass over the lengths is enough.
 pub fn lengths(g: GrammarTable) -> LengthTable
     requires { ⌜ g .count ≤ 64 ⌝ }
-    ensures { λ r. ⌜ (r .count ≤ 84) × ((h : Grammar) → GoodRules h → g ≡ grammarTable h → r ≡ lengthTable (lengthsOf (h .rules))) ⌝ }
+    ensures { λ r. ⌜
+        (r .count ≤ 84) × ((h : Grammar) → GoodRules h → g ≡ grammarTable h → r ≡ lengthTable (lengthsOf (h .rules)))
+        ⌝ }
 {
     let flags = arities(g);
     let mut at = [0usize; ARITY_CELLS];
@@ -215,7 +217,9 @@ pub fn work_cells_by(g: GrammarTable, p: PlayingTable, count: usize) -> usize
 // The required length of finding's work slice, in cells.
 pub fn work_cells(g: GrammarTable, p: PlayingTable) -> usize
     requires { ⌜ (g .count ≤ 64) × (p .count ≤ 512) ⌝ }
-    ensures { λ r. ⌜ ((s : Sheet) → Good s → g ≡ grammarTable (s .grammar) → p ≡ playingTable (s .playing) → r ≡ workCells s) ⌝ }
+    ensures { λ r. ⌜
+        ((s : Sheet) → Good s → g ≡ grammarTable (s .grammar) → p ≡ playingTable (s .playing) → r ≡ workCells s)
+        ⌝ }
 {
     let reached = lengths(g);
     work_cells_by(g, p, reached.count)

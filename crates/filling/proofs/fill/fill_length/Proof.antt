@@ -33,50 +33,53 @@ split-by-requires c κs =
 
 length-requires : tie.Need-length-requires Inv-loop μ-loop
 length-requires c κs =
-    let start = c .before .before .before .before .before .before .before in
-    let loop = c .before .before .before .before .loop in
-    let loop-test = c .before .before .before .loop-test in
-    let split-by = c .before .before .split-by in
-    let if1 = c .if1 in
+    let at-split-by = c .before .before in
+    let at-loop = at-split-by .before .before in
+    let start = at-loop .before .before .before in
+    let loop = at-loop .loop in
+    let less = at-split-by .before .loop-test in
     let e = start .pre .1 in
-    let told = split-by .ensures .1 _ (e .in-bar .prepared) (e .lone .length-in) in
-    (part-length e (loop .inv .0) (omega (arith, loop-test .taken)) told (if1 .taken), (start .pre .0, e .in-bar .prepared))
+    let told = at-split-by .split-by .ensures .1 _ (e .in-bar .prepared) (e .lone .length-in) in
+    (part-length e (loop .inv .0) (omega (arith, less .taken)) told (c .if1 .taken), (start .pre .0, e .in-bar .prepared))
 
 div-j : tie.Need-div-j Inv-loop μ-loop
 div-j c =
-    let start = c .before .before .before .before .before .before .before .before .before .before in
-    let loop = c .before .before .before .before .before .before .before .loop in
-    let loop-test = c .before .before .before .before .before .before .loop-test in
-    let split-by = c .before .before .before .before .before .split-by in
-    let if1 = c .before .before .before .if1 in
+    let at-if1 = c .before .before .before in
+    let at-split-by = at-if1 .before .before in
+    let at-loop = at-split-by .before .before in
+    let start = at-loop .before .before .before in
+    let loop = at-loop .loop in
+    let less = at-split-by .before .loop-test in
     let length = c .before .before .length in
     let e = start .pre .1 in
-    let told = split-by .ensures .1 _ (e .in-bar .prepared) (e .lone .length-in) in
-    omega (arith, part-positive e (loop .inv .0) (omega (arith, loop-test .taken)) told (if1 .taken) (length .ensures) refl)
+    let told = at-split-by .split-by .ensures .1 _ (e .in-bar .prepared) (e .lone .length-in) in
+    omega (arith, part-positive e (loop .inv .0) (omega (arith, less .taken)) told (at-if1 .if1 .taken) (length .ensures) refl)
 
 cast-j : tie.Need-cast-j Inv-loop μ-loop
 cast-j c =
-    let start = c .before .before .before .before .before .before .before .before .before .before in
-    let loop = c .before .before .before .before .before .before .before .loop in
-    let loop-test = c .before .before .before .before .before .before .loop-test in
-    let split-by = c .before .before .before .before .before .split-by in
-    let if1 = c .before .before .before .if1 in
+    let at-if1 = c .before .before .before in
+    let at-split-by = at-if1 .before .before in
+    let at-loop = at-split-by .before .before in
+    let start = at-loop .before .before .before in
+    let loop = at-loop .loop in
+    let less = at-split-by .before .loop-test in
     let length = c .before .before .length in
     let e = start .pre .1 in
-    let told = split-by .ensures .1 _ (e .in-bar .prepared) (e .lone .length-in) in
-    omega (arith, part-few e (loop .inv .0) (omega (arith, loop-test .taken)) told (if1 .taken) (length .ensures) refl)
+    let told = at-split-by .split-by .ensures .1 _ (e .in-bar .prepared) (e .lone .length-in) in
+    omega (arith, part-few e (loop .inv .0) (omega (arith, less .taken)) told (at-if1 .if1 .taken) (length .ensures) refl)
 
 fill-arity-requires : tie.Need-fill-arity-requires Inv-loop μ-loop
 fill-arity-requires c κs =
-    let start = c .before .before .before .before .before .before .before .before .before .before .before in
-    let loop = c .before .before .before .before .before .before .before .before .loop in
-    let loop-test = c .before .before .before .before .before .before .before .loop-test in
-    let split-by = c .before .before .before .before .before .before .split-by in
-    let if1 = c .before .before .before .before .if1 in
+    let at-if1 = c .before .before .before .before in
+    let at-split-by = at-if1 .before .before in
+    let at-loop = at-split-by .before .before in
+    let start = at-loop .before .before .before in
+    let loop = at-loop .loop in
+    let less = at-split-by .before .loop-test in
     let length = c .before .before .before .length in
     let e = start .pre .1 in
-    let told = split-by .ensures .1 _ (e .in-bar .prepared) (e .lone .length-in) in
-    let asked = arity-asked e (loop .inv .0) (omega (arith, loop-test .taken)) told (if1 .taken) (length .ensures) refl in
+    let told = at-split-by .split-by .ensures .1 _ (e .in-bar .prepared) (e .lone .length-in) in
+    let asked = arity-asked e (loop .inv .0) (omega (arith, less .taken)) told (at-if1 .if1 .taken) (length .ensures) refl in
     (start .pre .0, asked (loop .inv .2 _ e))
 
 loop-less : tie.Need-loop-less Inv-loop μ-loop
@@ -84,20 +87,21 @@ loop-less c = search needs
 
 loop-again : tie.Need-loop-again Inv-loop μ-loop
 loop-again c =
-    let loop = c .before .before .before .before .before .before .before .before .before .before .before .loop in
-    let loop-test = c .before .before .before .before .before .before .before .before .before .before .loop-test in
-    let split-by = c .before .before .before .before .before .before .before .before .before .split-by in
-    let if1 = c .before .before .before .before .before .before .before .if1 in
+    let at-if1 = c .before .before .before .before .before .before .before in
+    let at-split-by = at-if1 .before .before in
+    let at-loop = at-split-by .before .before in
+    let loop = at-loop .loop in
+    let less = at-split-by .before .loop-test in
     let length = c .before .before .before .before .before .before .length in
     let fill-arity = c .before .before .fill-arity in (
       omega (arith, loop .inv .0),
-      omega (arith, loop-test .taken),
+      omega (arith, less .taken),
       λ s e.
-          let told = split-by .ensures .1 s (e .in-bar .prepared) (e .lone .length-in) in
-          let eight : loop .k ≤ 8 = omega (arith, loop-test .taken) in
+          let told = at-split-by .split-by .ensures .1 s (e .in-bar .prepared) (e .lone .length-in) in
+          let eight : loop .k ≤ 8 = omega (arith, less .taken) in
           let b = loop .inv .2 s e in
-          arity-told e (loop .inv .0) eight told (if1 .taken) (length .ensures) refl b
-          (fill-arity .ensures s (arity-asked e (loop .inv .0) eight told (if1 .taken) (length .ensures) refl b)),
+          arity-told e (loop .inv .0) eight told (at-if1 .if1 .taken) (length .ensures) refl b
+          (fill-arity .ensures s (arity-asked e (loop .inv .0) eight told (at-if1 .if1 .taken) (length .ensures) refl b)),
     )
 
 loop-less-2 : tie.Need-loop-less-2 Inv-loop μ-loop
@@ -105,15 +109,15 @@ loop-less-2 c = search needs
 
 loop-again-2 : tie.Need-loop-again-2 Inv-loop μ-loop
 loop-again-2 c =
-    let loop = c .before .before .before .before .loop in
-    let loop-test = c .before .before .before .loop-test in
-    let split-by = c .before .before .split-by in
-    let if1 = c .if1 in (
+    let at-split-by = c .before .before in
+    let at-loop = at-split-by .before .before in
+    let loop = at-loop .loop in
+    let less = at-split-by .before .loop-test in (
       omega (arith, loop .inv .0),
-      omega (arith, loop-test .taken),
+      omega (arith, less .taken),
       λ s e.
-          let told = split-by .ensures .1 s (e .in-bar .prepared) (e .lone .length-in) in
-          length-idle e (loop .inv .0) (omega (arith, loop-test .taken)) told (if1 .left) (loop .inv .2 s e),
+          let told = at-split-by .split-by .ensures .1 s (e .in-bar .prepared) (e .lone .length-in) in
+          length-idle e (loop .inv .0) (omega (arith, less .taken)) told (c .if1 .left) (loop .inv .2 s e),
     )
 
 same-length : tie.Need-same-length Inv-loop μ-loop

@@ -38,7 +38,8 @@ slice-aggregate-lay-sections c = search needs
 
 lay-sections-requires : tie.Need-lay-sections-requires
 lay-sections-requires c κs =
-    let grouped = c .before .before .before .before .before .before .before .before .before in
+    let referred = c .before .before .before .before .before .before in
+    let grouped = referred .before .before .before in
     let lowered = grouped .before .before .before in
     let start = lowered .before .before .before .before .before in
     let told = start .args in
@@ -56,7 +57,8 @@ lay-sections-requires c κs =
 returns : tie.Need-returns
 returns c =
     let laid = c .before in
-    let grouped = laid .before .before .before .before .before .before .before .before .before .before in
+    let referred = laid .before .before .before .before .before .before .before in
+    let grouped = referred .before .before .before in
     let lowered = grouped .before .before .before in
     let packed = lowered .before .before .before .before in
     let told = packed .before .args in

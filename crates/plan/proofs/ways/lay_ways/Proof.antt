@@ -32,7 +32,8 @@ cast-lay-division c = search needs
 
 mul-lay-division : tie.Need-mul-lay-division Inv-loop μ-loop
 mul-lay-division c =
-    let start = c .before .before .before .before .before .before .before .before .before in
+    let at-loop = c .before .before .before .before .before .before .before in
+    let start = at-loop .before .before in
     omega (arith, weighted-most (start .args .a) (c .before .before .before .rule .given .0 .1 .0) (search needs) (search needs))
 
 cast-lay-division-2 : tie.Need-cast-lay-division-2 Inv-loop μ-loop

@@ -23,7 +23,8 @@ use Rattle.rows.proofs.one.+part_one+rule_one+solve_one.Tie.{close}
 pub +part-one+rule-one+solve-one-spec : {M : Type 1} → statement M
 +part-one+rule-one+solve-one-spec =
     close μ-part-one μ-rule-one μ-solve-one
-    (λ t. part-one-lts.spec (part-needs.calls t) (part-one-at t) part-one.Post (part-needs.place-of-requires t) (part-needs.held-requires t)
+    (λ t. part-one-lts.spec (part-needs.calls t) (part-one-at t) part-one.Post (part-needs.place-of-requires t)
+    (part-needs.held-requires t)
     (part-needs.load-requires t) (part-needs.array-read-t19 t) (part-needs.array-read-t22 t) (part-needs.same-length t)
     (part-needs.returns t) (part-needs.solve-one-requires t) (part-needs.same-length-2 t) (part-needs.returns-2 t))
     (λ t. rule-one-lts.spec (rule-needs.calls t) (rule-one-at t) rule-one.Post (rule-needs.length-requires t) (rule-needs.div-i t)

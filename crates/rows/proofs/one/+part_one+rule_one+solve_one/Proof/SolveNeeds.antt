@@ -176,30 +176,34 @@ module _ (t : ℕ) where
 
   pub add-store : solve-one-lts.Need-add-store calls (solve-one-at t) solve-one.Post Inv-loop μ-loop
   add-store c =
-      let start = c .before .before .before .before .before .before .before .before .before .before in
+      let at-last-division = c .before .before .before .before .before in
+      let start = at-last-division .before .before .before .before .before in
       omega (arith, stands-bar (start .pre .1 .1 .entry .entry .stands))
 
   pub store-requires : solve-one-lts.Need-store-requires calls (solve-one-at t) solve-one.Post Inv-loop μ-loop
   store-requires c κs =
-      let e = c .before .before .before .before .before .before .before .before .before .before .pre .1 .1 in
-      let p = c .before .before .loop .inv _ e .ruled in
+      let at-loop = c .before .before in
+      let at-last-division = at-loop .before .before .before in
+      let e = at-last-division .before .before .before .before .before .pre .1 .1 in
+      let p = at-loop .loop .inv _ e .ruled in
       (solve-room (e .entry) (p .sound), omega (arith, stands-bar (e .entry .entry .stands)), ruled-low p)
 
   pub same-length : solve-one-lts.Need-same-length calls (solve-one-at t) solve-one.Post Inv-loop μ-loop
   same-length c =
-      let last-division = c .before .before .before .before .before .before .before .before .last-division in
-      let loop = c .before .before .before .before .before .loop in
-      let loop-test = c .before .before .before .before .loop-test in
-      let store = c .before .before .store in
-      let e = c .before .before .before .before .before .before .before .before .before .before .before .before .before .pre .1 .1 in
-      let row = rules-end (e .entry) (loop .inv _ e) (last-division .ensures) (loop-test .left) in
-      solve-stored (e .entry) row (store .ensures) .sound .size ∙ sym (e .entry .entry .sound .size)
+      let at-store = c .before .before in
+      let at-loop-test = at-store .before .before in
+      let at-loop = at-loop-test .before in
+      let at-last-division = at-loop .before .before .before in
+      let e = at-last-division .before .before .before .before .before .pre .1 .1 in
+      let row = rules-end (e .entry) (at-loop .loop .inv _ e) (at-last-division .last-division .ensures) (at-loop-test .loop-test .left) in
+      solve-stored (e .entry) row (at-store .store .ensures) .sound .size ∙ sym (e .entry .entry .sound .size)
 
   pub returns : solve-one-lts.Need-returns calls (solve-one-at t) solve-one.Post Inv-loop μ-loop
   returns c =
-      let last-division = c .before .before .before .before .before .before .before .before .last-division in
-      let loop = c .before .before .before .before .before .loop in
-      let loop-test = c .before .before .before .before .loop-test in
-      let store = c .before .before .store in
+      let at-store = c .before .before in
+      let at-loop-test = at-store .before .before in
+      let at-loop = at-loop-test .before in
+      let at-last-division = at-loop .before .before .before in
       λ s e.
-      solve-stored (e .entry) (rules-end (e .entry) (loop .inv s e) (last-division .ensures) (loop-test .left)) (store .ensures)
+      let row = rules-end (e .entry) (at-loop .loop .inv s e) (at-last-division .last-division .ensures) (at-loop-test .loop-test .left) in
+      solve-stored (e .entry) row (at-store .store .ensures)
