@@ -21,12 +21,12 @@ use Rattle.rows.specs.PackedLaws.{packedCell}
 use Rattle.rows.specs.PackedTurnLaws.{packedTo}
 use Rattle.rows.specs.Slots.{itemAt, InBar, Sound}
 use Rattle.rows.specs.One.{LeafOne}
-use Rattle.filling.specs.Order.{IsDivision, UsedOf, firstOf, usedIn, ByArity}
+use Rattle.filling.specs.Order.{IsDivision, UsedOf, firstOf, usedIn, ByArity, Ordered}
 
 -- what `fill_bar` is given
 pub record FillEntry (s : Sheet) (plan us order rows : List ℕ) (bar : Bar) : Type 0 where
   pub in-bar : InBar s plan us bar
-  pub ordered : ByArity s order
+  pub ordered : Ordered s order
   pub sound : Sound s rows
 
 -- ---- an onset and its intervals

@@ -11,6 +11,7 @@ use Rattle.plan.specs.Plan.{lengths, lengthsCell}
 use Rattle.rows.specs.declared.slots.Bar.{Bar}
 use Rattle.rows.specs.OnsetLaws.{Behind, behind-start, behind-more}
 use Rattle.rows.specs.Slots.{Sound}
+use Rattle.filling.specs.Order.{worthIn}
 use Rattle.filling.specs.Filling.{FillEntry, Filled, AtEntry, FilledAt, OnsetEntry, OnsetFilled}
 
 -- ---- the lengths of an onset
@@ -81,10 +82,10 @@ module _ {s : Sheet} {plan us order rows : List ℕ} {bar : Bar} (e : FillEntry 
     pub bar-next : i + 1 ≤ 512
     bar-next = next .1
 
-    pub bar-asked : OnsetEntry s plan us order now pairs bar i
-    bar-asked = record {
+    pub bar-asked : worthIn order ≡ 1 → OnsetEntry s plan us order now pairs bar i
+    bar-asked worth = record {
       of-bar = record { in-bar = e .in-bar; behind = p .behind; before = omega (arith, next .0) };
-      ordered = e .ordered;
+      ordered = e .ordered worth;
       sound = p .sound;
       size = p .size;
     }

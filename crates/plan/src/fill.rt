@@ -15,7 +15,6 @@ use crate::heads::by_head;
 use crate::lay::lay_groups;
 use crate::lay::lay_numbers;
 use crate::lay::lay_tables;
-use crate::layout::PLAN_CELLS;
 use crate::leaves::least_leaves;
 use crate::parts::lay_parts;
 use crate::ways::Leaves;
@@ -59,14 +58,15 @@ fn lay_sections<'a>(
     lay_ways(plan, rules, children, leaves, a, n);
 }
 
-// The plan of a grammar, whose lengths are known.
-pub fn prepare(grammar: GrammarTable, reached: LengthTable) -> Plan
+// Lays the plan of a grammar, whose lengths are known, into the array that is lent, whatever it holds: given back by value, it would be
+// copied.
+pub fn prepare(plan: &mut Plan, grammar: GrammarTable, reached: LengthTable)
     requires { ⌜
         ((h : Grammar) × GoodRules h × (grammar ≡ grammarTable h) × (reached ≡ lengthTable (lengthsOf (h .rules))))
         ⌝ }
-    ensures { λ r. ⌜
+    ensures { λ _. ⌜
         ((s : Sheet) → GoodRules (s .grammar) → grammar ≡ grammarTable (s .grammar)
-        → reached ≡ lengthTable (lengthsOf (s .grammar .rules)) → Prepared s r)
+        → reached ≡ lengthTable (lengthsOf (s .grammar .rules)) → Prepared s (now (plan .exit)))
         ⌝ }
 {
     let rules = pack_rules(grammar);
@@ -80,9 +80,8 @@ pub fn prepare(grammar: GrammarTable, reached: LengthTable) -> Plan
     let groups = by_head(&rules, n);
     let order = groups.order;
     let first = groups.first;
-    let mut plan = [0u64; PLAN_CELLS];
     lay_sections(
-        &mut plan,
+        plan,
         &rules,
         &children,
         &leaves,
@@ -94,5 +93,4 @@ pub fn prepare(grammar: GrammarTable, reached: LengthTable) -> Plan
         count,
         n,
     );
-    plan
 }

@@ -20,13 +20,13 @@ use sheet::Units;
 // Above every packed cell: a stamp is a multiple of it.
 const MARK: u64 = 144115188075855872;
 
-// A bar: its number from 0, the place of the first onset at or behind its start, by how many places its slots are turned, and the number of
-// slots.
+// A bar: the place of the first onset at or behind its start, the number of slots, its own number from 0, and by how many places its slots
+// are turned. It is copied at every call; with the fields in this order the processor waits least for what was just stored.
 pub struct Bar {
-    pub number: usize,
     pub first: usize,
-    pub shift: usize,
     pub slots: usize,
+    pub number: usize,
+    pub shift: usize,
 }
 
 // The row at a place.

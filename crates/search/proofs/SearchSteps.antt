@@ -30,7 +30,7 @@ use Rattle.plan.specs.Plan.{lengths, Prepared, nonterminalsCell, lengthsCell}
 use Rattle.rows.specs.MemoLaws.{memo-clear}
 use Rattle.rows.specs.Slots.{slots, slotCell}
 use Rattle.rows.specs.OnsetLaws.{largest-le}
-use Rattle.filling.specs.Order.{ByArity}
+use Rattle.filling.specs.Order.{Ordered}
 use Rattle.search.specs.declared.Found.{Found}
 use Rattle.search.specs.declared.Found.the-variants.{Tree}
 use Rattle.search.specs.Contracts.{barsTo, ForwardPre, Committed, FoundIn, ParsePre, FoundAs}
@@ -48,7 +48,7 @@ module _ {s : Sheet} {plan us rows tree : List ℕ} {start count : ℕ} (h : Par
 
   -- a table of zeros claims nothing
   pub parse-forward : {now order bytes roots vectors : List ℕ} {n : ℕ} → n ≡ length rows → Filled (λ _. 0) rows now n
-      → ByArity s order
+      → Ordered s order
       → length roots ≡ 1024 → length vectors ≡ 260 → length bytes ≡ treeMost
       → ForwardPre s plan us order now bytes roots vectors start count
   parse-forward {now} en t ordered er ev eb = record {

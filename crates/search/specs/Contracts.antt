@@ -31,7 +31,7 @@ use Rattle.rows.specs.IdleLaws.{Idle}
 use Rattle.search.specs.declared.Found.{Found}
 use Rattle.search.specs.declared.Found.the-variants.{NoTree, Tree}
 use Rattle.building.specs.Contracts.{suffixCosts}
-use Rattle.filling.specs.Order.{ByArity}
+use Rattle.filling.specs.Order.{Ordered}
 
 -- ---- bars
 
@@ -199,7 +199,7 @@ pub record CommittedAs (s : Sheet) (rows tree : List ℕ) (e n : ℕ) : Type 0 w
 -- all bars, with tables of the lengths that they need
 pub record ForwardPre (s : Sheet) (plan units order rows tree roots vectors : List ℕ) (start count : ℕ) : Type 0 where
   pub entry : BarsPre s plan units rows start count
-  pub ordered : ByArity s order
+  pub ordered : Ordered s order
   pub roots-size : 16 * count ≤ length roots
   pub vectors-size : 4 * (count + 1) ≤ length vectors
   pub room : treeBytes s ≤ length tree

@@ -23,6 +23,7 @@ use expansions::pack_units;
 use filling::Order;
 use filling::by_arity;
 use filling::fill_bar;
+use plan::PLAN_CELLS;
 use plan::Plan;
 use plan::prepare;
 use rows::vector::NONE;
@@ -199,7 +200,8 @@ pub fn least_tree(
         → Searched s (now (tree .entry)) (now (tree .exit)) (now (work .entry)) (now (work .exit)) r)
         ⌝ }
 {
-    let plan = prepare(grammar, reached);
+    let mut plan = [0u64; PLAN_CELLS];
+    prepare(&mut plan, grammar, reached);
     let units = pack_units(playing);
     let start = grammar.start as usize;
     let count = playing.bars as usize;

@@ -31,11 +31,15 @@ abbrev units-place : tie.After-most-in-bar → tie.After-pack-units
 units-place c = c .before .before .before .before
 
 abbrev start-of : tie.After-most-in-bar → tie.Start
-start-of c = units-place c .before .before .before .before
+start-of c = units-place c .before .before .before .before .before
+
+-- the plan, as it was laid
+abbrev plan-of : tie.After-most-in-bar → List ℕ
+plan-of c = units-place c .before .prepare .last .0
 
 -- the cells of the rows may be counted
 counted : (c : tie.After-most-in-bar) (s : Sheet) → Asked (start-of c) s
-    → RowCellsPre s (units-place c .before .prepare .result) (c .most-in-bar .result)
+    → RowCellsPre s (plan-of c) (c .most-in-bar .result)
 counted c s (h, lengths) = record {
   prepared = units-place c .before .prepare .ensures s (h .held .good .rules) (h .held .grammar) lengths;
   onsets = h .held .good .onsets;
@@ -63,7 +67,7 @@ fit c s h = cells-fit (h .0) (cells-are c s h)
 -- so the tree may be searched in them
 entry : (c : tie.After-row-cells) (s : Sheet) → Asked (start-place c) s → let at-units = units-place (c .before) in
     let a = start-place c .args in
-    ParsePre s (at-units .before .prepare .result) (at-units .pack-units .result) (take (cells-of c) (work-of c)) (a .tree .now)
+    ParsePre s (plan-of (c .before)) (at-units .pack-units .result) (take (cells-of c) (work-of c)) (a .tree .now)
     (a .grammar .start) (a .playing .bars)
 entry c s h =
     let held = h .0 .held in
@@ -79,11 +83,11 @@ cells-place c = c .before .before .before .before .before
 
 prepare-requires : tie.Need-prepare-requires
 prepare-requires c κs =
-    let (s, h, lengths) = c .before .before .pre in
+    let (s, h, lengths) = c .before .before .before .pre in
     (s .grammar, h .held .good .rules, h .held .grammar, lengths)
 
 pack-units-requires : tie.Need-pack-units-requires
-pack-units-requires c κs = onsets-few (c .before .before .before .pre .1)
+pack-units-requires c κs = onsets-few (c .before .before .before .before .pre .1)
 
 cast-start : tie.Need-cast-start
 cast-start c = search needs
@@ -94,7 +98,7 @@ cast-count c = search needs
 most-in-bar-requires : tie.Need-most-in-bar-requires
 most-in-bar-requires c κs =
     let at-prepare = c .before .before .before .before in
-    onsets-few (at-prepare .before .before .before .pre .1)
+    onsets-few (at-prepare .before .before .before .before .pre .1)
 
 row-cells-requires : tie.Need-row-cells-requires
 row-cells-requires c κs =

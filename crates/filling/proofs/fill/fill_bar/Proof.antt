@@ -1,9 +1,11 @@
 -- `fill_bar` meets its contract: before each turn the table is sound, and i is the place of an onset of the bar or of the first behind it
--- (`BarTo`). Assumes nothing.
+-- (`BarTo`). Where the loop is reached, filling is worth it (`worth`), so the array has the divisions. Assumes nothing.
 use Prim.Native.Nat.{_-_}
-use mathlib.Core.Path.{refl, sym, _∙_}
+use mathlib.Core.Path.{_≡_, refl, sym, _∙_}
 use native.Mathlib.Omega.{arith}
+use borrow.Author.Tests.{not-false}
 use Rattle.sheet.specs.Sheet.{Sheet}
+use Rattle.filling.specs.Order.{worthIn}
 use Rattle.filling.specs.Filling.{FillEntry}
 use Rattle.filling.specs.OnsetLaws.{BarTo, bar-number, bar-begin, bar-place, bar-next, bar-asked, bar-more}
 use borrow.Author.Needs.{needs}
@@ -16,6 +18,9 @@ Inv-loop plan units order rows₀ bar end pairs₀ i₀ rows pairs i =
 
 abbrev μ-loop : tie.MeasureT-loop
 μ-loop plan units order rows₀ bar end pairs₀ i₀ rows pairs i = 513 - i
+
+worth : (c : tie.Else1 Inv-loop μ-loop) → worthIn (c .before .before .before .args .order .now) ≡ 1
+worth c = c .before .is-worth .ensures (not-false _ (c .if1 .left))
 
 is-worth-requires : tie.Need-is-worth-requires Inv-loop μ-loop
 is-worth-requires c κs = search needs
@@ -61,10 +66,10 @@ slice-aggregate-fill-onset c =
 
 fill-onset-requires : tie.Need-fill-onset-requires Inv-loop μ-loop
 fill-onset-requires c κs =
-    let start = c .before .before .before .before .before .before .before .before .before in
-    let loop = c .before .before .before .before .loop in
+    let back = c .before .before .before .before in
+    let start = back .before .before .before .before .before in
     let if2 = c .before .before .if2 in
-    (start .pre .0, bar-asked (start .pre .1) (loop .inv _ (start .pre .1)) (if2 .taken))
+    (start .pre .0, bar-asked (start .pre .1) (back .loop .inv _ (start .pre .1)) (if2 .taken) (worth (back .before .before)))
 
 add-i : tie.Need-add-i Inv-loop μ-loop
 add-i c =
@@ -84,10 +89,12 @@ loop-less c =
 
 loop-again : tie.Need-loop-again Inv-loop μ-loop
 loop-again c =
-    let loop = c .before .before .before .before .before .before .before .before .loop in
+    let back = c .before .before .before .before .before .before .before .before in
     let if2 = c .before .before .before .before .before .before .if2 in
     let fill-onset = c .before .before .before .fill-onset in
-    λ s e. bar-more e (loop .inv s e) (if2 .taken) (fill-onset .ensures s (bar-asked e (loop .inv s e) (if2 .taken)))
+    λ s e.
+    let asked = bar-asked e (back .loop .inv s e) (if2 .taken) (worth (back .before .before)) in
+    bar-more e (back .loop .inv s e) (if2 .taken) (fill-onset .ensures s asked)
 
 same-length : tie.Need-same-length Inv-loop μ-loop
 same-length c =

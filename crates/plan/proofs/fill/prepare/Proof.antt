@@ -1,6 +1,5 @@
--- `prepare` meets its contract: the sections are laid from the sheet's tables. Assumes nothing.
+-- `prepare` meets its contract: the sections are laid from the sheet's tables, whatever the array held. Assumes nothing.
 use Prim.Native.Nat.{_≤_}
-use mathlib.Core.Path.{refl}
 use mir.Syntax.{w32, w64}
 use mir.Val.{Fits}
 use lib.ListN.{getD}
@@ -33,9 +32,6 @@ least-leaves-requires c κs = rules-few (c .before .before .before .before)
 by-head-requires : tie.Need-by-head-requires
 by-head-requires c κs = rules-few (c .before .before .before .before .before .before .before)
 
-slice-aggregate-lay-sections : tie.Need-slice-aggregate-lay-sections
-slice-aggregate-lay-sections c = search needs
-
 lay-sections-requires : tie.Need-lay-sections-requires
 lay-sections-requires c κs =
     let referred = c .before .before .before .before .before .before in
@@ -44,7 +40,7 @@ lay-sections-requires c κs =
     let start = lowered .before .before .before .before .before in
     let told = start .args in
     let pre = start .pre in (
-      refl,
+      search needs,
       children-small start,
       (λ i. let f : Fits w64 (getD (lowered .least-leaves .result) i 0) = search needs in f .fits),
       lengths-small start,
@@ -56,8 +52,7 @@ lay-sections-requires c κs =
 
 returns : tie.Need-returns
 returns c =
-    let laid = c .before in
-    let referred = laid .before .before .before .before .before .before .before in
+    let referred = c .before .before .before .before .before .before .before in
     let grouped = referred .before .before .before in
     let lowered = grouped .before .before .before in
     let packed = lowered .before .before .before .before in
@@ -67,7 +62,7 @@ returns c =
     tables-of s good (told .grammar) e (packed .pack-rules .result) (lowered .least-leaves .result) (told .reached)
     (packed .pack-rules .ensures) (lowered .least-leaves .ensures) lens in
     let held : RulesHeld s (packed .pack-rules .result) = record { good = good; rules = tables .rules-are } in
-    prepared s _ _ _ _ _ _ _ _ tables (grouped .by-head .ensures s held (tables .n-is)) (laid .lay-sections .ensures)
+    prepared s _ _ _ _ _ _ _ _ tables (grouped .by-head .ensures s held (tables .n-is)) (c .lay-sections .ensures)
 
 pub prepare-spec : {M : Type 1} → statement M
 prepare-spec =
@@ -77,6 +72,5 @@ prepare-spec =
     cast-heads
     least-leaves-requires
     by-head-requires
-    slice-aggregate-lay-sections
     lay-sections-requires
     returns)
