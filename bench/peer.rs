@@ -136,41 +136,41 @@ fn most_in_a_bar(sheet: &Sheet) -> u64 {
     most
 }
 
-/// What a byte is worth as a digit; `NO_DIGIT` for every other byte.
-static DIGIT: [u8; 256] = digit_values();
-const NO_DIGIT: u8 = 0xFF;
+/// What a byte is worth as the first digit of a pair, and as the second.
+static FIRST: [u32; 256] = digit_values(16);
+static SECOND: [u32; 256] = digit_values(1);
+/// More than any pair of digits stands for; every byte that is no digit has it.
+const NO_BYTE: u32 = 0x100;
 
-const fn digit_values() -> [u8; 256] {
+const fn digit_values(unit: u32) -> [u32; 256] {
     let digits = b"0123456789ABCDEF";
-    let mut values = [NO_DIGIT; 256];
+    let mut values = [NO_BYTE; 256];
     let mut value = 0;
     while value < digits.len() {
-        values[digits[value] as usize] = value as u8;
+        values[digits[value] as usize] = unit * value as u32;
         value += 1;
     }
     values
 }
 
-/// The byte a pair of digits stands for.
-#[inline]
-fn byte(pair: &[u8]) -> Option<u8> {
-    let (high, low) = (DIGIT[usize::from(pair[0])], DIGIT[usize::from(pair[1])]);
-    ((high | low) != NO_DIGIT).then_some((high << 4) | low)
+/// The byte a pair of digits stands for; `NO_BYTE` or more for any other pair.
+#[inline(always)]
+fn byte(pair: &[u8]) -> u32 {
+    FIRST[usize::from(pair[0])] | SECOND[usize::from(pair[1])]
 }
 
 /// One well-formed line.
-struct Line<'a> {
+struct Line {
     kind: u8,
     count: usize,
-    digits: &'a [u8],
-    /// The last eight bytes, or all if fewer, as one big-endian number. It is
-    /// gathered while the form is checked, for the many lines of onsets; the
-    /// few other lines take their fields from the digits.
+    /// The first eight bytes of a line that has more, as one big-endian number.
+    front: u64,
+    /// The last eight bytes, or all if fewer, as one big-endian number.
     tail: u64,
     number: u16,
 }
 
-impl Line<'_> {
+impl Line {
     fn refuse<T>(&self, number: u8) -> Result<T, Refusal> {
         Err((number, self.number))
     }
@@ -183,27 +183,27 @@ impl Line<'_> {
         }
     }
 
-    fn field(&self, at: usize, bytes: usize) -> u32 {
-        let digits = &self.digits[2 * at..2 * (at + bytes)];
-        digits.iter().fold(0, |value, &digit| {
-            (value << 4) | u32::from(DIGIT[usize::from(digit)])
-        })
-    }
-
+    /// A byte that is one of the first eight or of the last eight.
     fn one(&self, at: usize) -> u8 {
-        self.field(at, 1) as u8
+        let behind = self.count - 1 - at;
+        if behind < 8 {
+            (self.tail >> (8 * behind)) as u8
+        } else {
+            (self.front >> (8 * (7 - at))) as u8
+        }
     }
 
     fn two(&self, at: usize) -> u16 {
-        self.field(at, 2) as u16
+        u16::from_be_bytes([self.one(at), self.one(at + 1)])
     }
 
+    /// Four bytes of a line that has at most eight.
     fn four(&self, at: usize) -> u32 {
-        self.field(at, 4)
+        (self.tail >> (8 * (self.count - 4 - at))) as u32
     }
 }
 
-/// The lines of a text, each checked and turned into bytes in the same pass.
+/// The lines of a text, each checked and turned into numbers in one loop.
 struct Lines<'a> {
     rest: &'a [u8],
     read: u16,
@@ -220,7 +220,7 @@ impl<'a> Lines<'a> {
     /// The next line, or `None` at the end of the text. Inlined, so that a line
     /// stays in registers: handing it over in memory costs a good part more.
     #[inline(always)]
-    fn next(&mut self) -> Result<Option<Line<'a>>, Refusal> {
+    fn next(&mut self) -> Result<Option<Line>, Refusal> {
         if self.rest.is_empty() {
             return Ok(None);
         }
@@ -230,33 +230,41 @@ impl<'a> Lines<'a> {
 
     /// `None` if the line is badly formed.
     #[inline(always)]
-    fn line(&mut self) -> Option<Line<'a>> {
+    fn line(&mut self) -> Option<Line> {
         let mut pairs = self.rest.chunks_exact(2);
-        let kind = byte(pairs.next()?)?;
-        let mut tail = u64::from(kind);
+        let kind = byte(pairs.next()?);
+        if kind >= NO_BYTE {
+            return None;
+        }
         let mut count = 1;
+        let mut front = 0;
+        let mut tail = u64::from(kind);
         for pair in pairs {
-            if pair[0] == b'\n' {
+            let byte = byte(pair);
+            if byte >= NO_BYTE {
                 break;
             }
-            tail = (tail << 8) | u64::from(byte(pair)?);
+            if count == 8 {
+                front = tail;
+            }
+            tail = (tail << 8) | u64::from(byte);
             count += 1;
         }
-        let (digits, [b'\n', rest @ ..]) = self.rest.split_at(2 * count) else {
+        let (_, [b'\n', rest @ ..]) = self.rest.split_at(2 * count) else {
             return None;
         };
         self.rest = rest;
         Some(Line {
-            kind,
+            kind: kind as u8,
             count,
-            digits,
+            front,
             tail,
             number: self.read,
         })
     }
 
     /// The next line where the sheet cannot end yet.
-    fn expect(&mut self) -> Result<Line<'a>, Refusal> {
+    fn expect(&mut self) -> Result<Line, Refusal> {
         self.next()?.ok_or((KIND, self.read + 1))
     }
 
@@ -388,9 +396,7 @@ fn onsets(lines: &mut Lines, sheet: &mut Sheet) -> Result<(), Refusal> {
 fn onset(line: &Line) -> Result<(u32, u8), Refusal> {
     line.refuse_if(line.kind != ONSET, KIND)?;
     line.refuse_if(line.count != 7, COUNT)?;
-    let time = (line.tail >> 16) as u32;
-    let pitch = (line.tail >> 8) as u8;
-    let velocity = line.tail as u8;
+    let (time, pitch, velocity) = (line.four(1), line.one(5), line.one(6));
     let in_range = pitch <= 127 && (1..=127).contains(&velocity);
     line.refuse_if(!in_range, RANGE)?;
     Ok((time, pitch))
@@ -434,6 +440,19 @@ pub mod tests {
 
     fn refusal(text: &[u8]) -> Refusal {
         read(text).expect_err("the text is refused")
+    }
+
+    /// The place of each digit of S's text, and its line's number.
+    fn digits_of_s() -> Vec<(usize, u16)> {
+        let mut line = 1;
+        let mut digits = Vec::new();
+        for (at, byte) in text(&S).into_iter().enumerate() {
+            match byte {
+                b'\n' => line += 1,
+                _ => digits.push((at, line)),
+            }
+        }
+        digits
     }
 
     /// S with so many copies of its first leaf as to have `count` rules.
@@ -540,6 +559,51 @@ pub mod tests {
     }
 
     #[test]
+    fn pairs_of_digits() {
+        let digit = |byte| b"0123456789ABCDEF".iter().position(|&digit| digit == byte);
+        for high in 0..=255 {
+            for low in 0..=255 {
+                let value = byte(&[high, low]);
+                match digit(high).zip(digit(low)) {
+                    Some((high, low)) => assert_eq!(value as usize, 16 * high + low),
+                    None => assert!(value >= NO_BYTE),
+                }
+            }
+        }
+    }
+
+    #[test]
+    fn foreign_byte_in_either_half() {
+        for (at, line) in digits_of_s() {
+            for byte in *b"acf/:@G`g \r\0\x80\xFF" {
+                let mut text = text(&S);
+                text[at] = byte;
+                assert_eq!(refusal(&text), (2, line));
+            }
+        }
+    }
+
+    #[test]
+    fn odd_digits() {
+        for (at, line) in digits_of_s() {
+            let mut short = text(&S);
+            short.remove(at);
+            assert_eq!(refusal(&short), (2, line));
+            let mut long = text(&S);
+            long.insert(at, b'0');
+            assert_eq!(refusal(&long), (2, line));
+        }
+    }
+
+    #[test]
+    fn empty_line() {
+        for before in 0..=8 {
+            let lines = [&S[..before], &[""], &S[before..]].concat();
+            assert_eq!(refusal(&text(&lines)), (2, before as u16 + 1));
+        }
+    }
+
+    #[test]
     fn kinds_in_order() {
         for kept in 1..=6 {
             assert_eq!(refusal(&text(&S[..kept])), (3, kept as u16 + 1));
@@ -604,12 +668,124 @@ pub mod tests {
     }
 
     #[test]
+    fn lines_of_other_counts() {
+        // A line of that kind with so many bytes, the fifth of them given.
+        let line = |kind: &str, fifth: usize, bytes: usize| {
+            let all = format!("{kind}000000{fifth:02X}{}", "00".repeat(300));
+            all[..2 * bytes].to_string()
+        };
+        let of = |at, kind, fifth, bytes| refusal(&s_with(at, &line(kind, fifth, bytes)));
+        for bytes in 1..=300 {
+            for at in 1..=8 {
+                assert_eq!(of(at, "58", 2, bytes), (3, at as u16));
+            }
+            if bytes != 5 {
+                assert_eq!(of(1, "47", 0, bytes), (4, 1));
+                assert_eq!(of(2, "4C", 0, bytes), (4, 2));
+            }
+            if bytes != 6 {
+                assert_eq!(of(6, "45", 0, bytes), (4, 6));
+            }
+            if bytes != 7 {
+                assert_eq!(of(7, "4E", 0, bytes), (4, 7));
+                assert_eq!(of(8, "4E", 0, bytes), (4, 8));
+            }
+            for arity in (0..=255).filter(|arity| bytes != 5 + arity) {
+                let counted = bytes < 5 || (2..=8).contains(&arity);
+                let number = if counted { 4 } else { 5 };
+                assert_eq!(of(3, "44", arity, bytes), (number, 3));
+            }
+        }
+    }
+
+    #[test]
     fn form_of_a_later_line_goes_first() {
         let mut lines = S;
         (lines[0], lines[7]) = ("5800", "4E0010C8E03E4");
         assert_eq!(refusal(&text(&lines)), (2, 8));
         assert_eq!(refusal(&[text(&S[..3]), b"4E".to_vec()].concat()), (2, 4));
         assert_eq!(refusal(&[b'G'; 16_384]), (2, 1));
+    }
+
+    /// S with a refused line at each stage: the lines, the number and the line refused.
+    fn refused_sheets() -> Vec<(Vec<&'static str>, u8, u16)> {
+        let mut refused = Vec::new();
+        let lines = [
+            ("5800", 3, 1),
+            ("4702", 4, 1),
+            ("470000000A", 5, 1),
+            ("5800", 3, 2),
+            ("4C00", 4, 2),
+            ("4C00000105", 5, 2),
+            ("5800", 3, 5),
+            ("44", 4, 5),
+            ("4400000609", 5, 5),
+            ("5800", 3, 6),
+            ("45011E8480", 4, 6),
+            ("4501000003E7", 5, 6),
+            ("5800", 3, 7),
+            ("4E", 4, 7),
+            ("4E000000008040", 5, 7),
+            ("58000000003C40", 3, 8),
+            ("4E0010C8E03E4000", 4, 8),
+            ("4E0010C8E03E00", 5, 8),
+            ("4E001E84803E40", 7, 8),
+        ];
+        for (line, number, at) in lines {
+            let mut lines = S.to_vec();
+            lines[usize::from(at) - 1] = line;
+            refused.push((lines, number, at));
+        }
+        let falling = [&S[..6], &S[7..], &S[6..7]].concat();
+        refused.push((falling, 6, 8));
+        refused.push((s_with_rules(65), 8, 66));
+        let crowded = [&S[..6], &[S[6]; 33]].concat();
+        refused.push((crowded, 8, 39));
+        refused
+    }
+
+    #[test]
+    fn form_after_a_refused_line() {
+        for (lines, number, at) in refused_sheets() {
+            assert_eq!(refusal(&text(&lines)), (number, at));
+            // A badly formed line next to the refused one, and at the end.
+            for place in [usize::from(at), lines.len()] {
+                for line in ["4G", "4", "", "4E000000003c40", "4E000000003C40\r"] {
+                    let lines = [&lines[..place], &[line], &lines[place..]].concat();
+                    assert_eq!(refusal(&text(&lines)), (2, place as u16 + 1));
+                }
+            }
+            // The last line not closed, and after it one that is not closed.
+            let mut cut = text(&lines);
+            cut.pop();
+            assert_eq!(refusal(&cut), (2, lines.len() as u16));
+            let more = [text(&lines), b"4E".to_vec()].concat();
+            assert_eq!(refusal(&more), (2, lines.len() as u16 + 1));
+            // Well-formed lines after it change nothing.
+            let lines = [&lines[..], &["5800", "00"]].concat();
+            assert_eq!(refusal(&text(&lines)), (number, at));
+        }
+        assert_eq!(refusal(&text(&["5800", "4G"])), (2, 2));
+        assert_eq!(refusal(b"5800\n4E"), (2, 2));
+    }
+
+    #[test]
+    fn form_where_the_text_ends_early() {
+        for kept in 1..=6 {
+            let end = kept as u16 + 1;
+            let early = text(&S[..kept]);
+            assert_eq!(refusal(&early), (3, end));
+            assert_eq!(refusal(&early[..early.len() - 1]), (2, end - 1));
+            for line in ["4G\n", "4\n", "\n", "4E", "4"] {
+                let text = [&early[..], line.as_bytes()].concat();
+                assert_eq!(refusal(&text), (2, end));
+            }
+            for bad in 0..kept {
+                let mut lines = S[..kept].to_vec();
+                lines[bad] = "4G";
+                assert_eq!(refusal(&text(&lines)), (2, bad as u16 + 1));
+            }
+        }
     }
 
     #[test]
@@ -646,5 +822,18 @@ pub mod tests {
         assert_eq!(refusal(&roomy), (8, 519));
         let crowded = [many_onsets(2, 32), text(&["4E001E847F3C40"])].concat();
         assert_eq!(refusal(&crowded), (8, 71));
+    }
+
+    #[test]
+    fn a_bar_begins_at_its_first_microsecond() {
+        // Three bars of 1,000,003 microseconds, 32 onsets at the end of the first.
+        let full = |line: &str| {
+            let head = text(&[&S[..5], &["4503000F4243"]].concat());
+            let onsets = text(&["4E000F42423C40"; 32]);
+            read(&[head, onsets, text(&[line])].concat()).map(|sheet| sheet.onsets[32].0)
+        };
+        assert_eq!(full("4E000F42423C40"), Err((8, 39)));
+        assert_eq!(full("4E000F42433C40"), Ok(BAR_UNITS));
+        assert_eq!(full("4E001E84863C40"), Ok(2 * BAR_UNITS));
     }
 }

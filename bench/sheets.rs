@@ -269,7 +269,7 @@ fn time_in(dice: &mut Dice, bar: usize, duration: usize, before: Option<usize>) 
 
 type Damage = (&'static str, fn(&mut Dice, &mut Draft) -> Option<Outcome>);
 
-const DAMAGES: [Damage; 34] = [
+const DAMAGES: [Damage; 35] = [
     ("unknown kind", unknown_kind),
     ("kind out of order", kind_out_of_order),
     ("any other kind", any_other_kind),
@@ -281,6 +281,7 @@ const DAMAGES: [Damage; 34] = [
     ("line doubled", line_doubled),
     ("ends before an onset", ends_before_an_onset),
     ("bytes added", bytes_added),
+    ("long line", long_line),
     ("bytes removed", bytes_removed),
     ("division one part short", division_one_part_short),
     ("bytes removed and names too large", short_with_large_names),
@@ -325,14 +326,18 @@ fn kind_out_of_order(dice: &mut Dice, draft: &mut Draft) -> Option<Outcome> {
         1 => dice.between(draft.playing_head() - 1, near - 1),
         _ => draft.any_line(dice),
     };
-    let wrong: &[u8] = match at {
+    draft.lines[at][0] = dice.pick(out_of_order(draft, at));
+    Some((3, number(at)))
+}
+
+/// The kinds that are out of order at a place.
+fn out_of_order(draft: &Draft, at: usize) -> &'static [u8] {
+    match at {
         0 => &[0x44, 0x4C, 0x45, 0x4E],
         1 => &[0x47, 0x45, 0x4E],
         _ if at <= draft.playing_head() => &[0x47, 0x4E],
         _ => &[0x47, 0x44, 0x4C, 0x45],
-    };
-    draft.lines[at][0] = dice.pick(wrong);
-    Some((3, number(at)))
+    }
 }
 
 fn any_other_kind(dice: &mut Dice, draft: &mut Draft) -> Option<Outcome> {
@@ -406,6 +411,32 @@ fn bytes_added(dice: &mut Dice, draft: &mut Draft) -> Option<Outcome> {
     };
     draft.lines[at].extend((0..more).map(|_| dice.byte()));
     Some((4, number(at)))
+}
+
+/// A line of 9 bytes or more, of the kind that stood in its place or of any.
+fn long_line(dice: &mut Dice, draft: &mut Draft) -> Option<Outcome> {
+    let at = line_of_any_kind(dice, draft);
+    let kind = match dice.below(2) {
+        0 => draft.lines[at][0],
+        _ => dice.pick(&[0x47, 0x44, 0x4C, 0x45, 0x4E, 0x58]),
+    };
+    let arity = dice.between(0, 9);
+    let count = dice.between_edged(9, 40);
+    let mut line = vec![kind, dice.byte(), dice.byte(), dice.byte(), arity as u8];
+    line.resize_with(count, || dice.byte());
+    // A division of so many parts would have the right count.
+    if count == 5 + arity {
+        line.push(dice.byte());
+    }
+    draft.lines[at] = line;
+    let refused_by = if kind == 0x58 || out_of_order(draft, at).contains(&kind) {
+        3
+    } else if kind == 0x44 && !(2..=8).contains(&arity) {
+        5
+    } else {
+        4
+    };
+    Some((refused_by, number(at)))
 }
 
 fn bytes_removed(dice: &mut Dice, draft: &mut Draft) -> Option<Outcome> {
@@ -740,7 +771,8 @@ fn unclosed_line_added(dice: &mut Dice, text: &mut Vec<u8>) -> Outcome {
 
 type Make = (&'static str, fn(&mut Dice) -> (Vec<u8>, Option<Outcome>));
 
-const MAKES: [Make; 10] = [
+const MAKES: [Make; 11] = [
+    ("badly formed line after a refused one", badly_formed_later),
     ("text cut", text_cut),
     ("text cut after a line", text_cut_after_line),
     ("byte changed", byte_changed),
@@ -752,6 +784,22 @@ const MAKES: [Make; 10] = [
     ("near the longest text, long lines", long_lines_near_limit),
     ("near the longest text, onsets", onsets_near_limit),
 ];
+
+/// A damaged sheet with one line more, and after its refused line, whatever that
+/// is refused for, a badly formed one, which must go first.
+fn badly_formed_later(dice: &mut Dice) -> (Vec<u8>, Option<Outcome>) {
+    let mut draft = draft(dice);
+    let (_, damage) = dice.pick(&DAMAGES);
+    let refused = damage(dice, &mut draft).map_or(0, |(_, line)| usize::from(line));
+    // A sheet that ends too early is refused past its last line.
+    let kept = refused.min(draft.lines.len());
+    draft.lines.push(vec![0x4E]);
+    let mut later = text_of(&draft.lines.split_off(kept));
+    let (_, damage) = dice.pick(&FORM_DAMAGES);
+    let (number, line) = damage(dice, &mut later);
+    let text = [draft.text(), later].concat();
+    (text, Some((number, kept as u16 + line)))
+}
 
 fn text_cut(dice: &mut Dice) -> (Vec<u8>, Option<Outcome>) {
     let mut text = draft(dice).text();

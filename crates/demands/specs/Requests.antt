@@ -1,5 +1,5 @@
--- What requests (xiv) and (ix) of document 02 add to the demands, under the requests' own words: theorems about `find` and about what the
--- search is prepared with. A reader needs the page of the demands, and of the names below their definitions.
+-- What requests (xiv), (ix) and (iv) of document 02 add to the demands, under the requests' own words: theorems about `find`, about what
+-- the search is prepared with, and about `read`. A reader needs the page of the demands, and of the names below their definitions.
 --   withMultiplier a s, slid a text    the sheet, the text, with the multiplier a in the place of its own (sheet/specs/Multiplier)
 --   AlikeTexts t u                     the same lines but for a's field (sheet/specs/Multiplier)
 --   Call                               a call of `find` by whatever meets `Finds` (finding/specs/Calls), x .answer what it gives
@@ -9,12 +9,25 @@
 --   ruleIn plan i, firstCell plan q    the rule at place i, and the first place of the rules with head q (plan/specs/Plan)
 --   HeadGroup s q number a b           the places from a up to, but not, b hold every rule with head q, once each and no other: number i is
 --                                      the rule at place i (plan/specs/Heads)
+--   badLine text                       the first bad line of a text, 0 for none (hextext/specs/Text)
+--   lineRead text at, lineBytes        the line that starts at a place as one loop reads it (hextext/specs/Packed); the bytes of a text's
+--                                      first line (hextext/specs/Text)
+--   LineHeld l b                       l holds the line b: its kind, its count, its first eight bytes and its last eight (sheet/specs/Held)
 use Prim.Native.Nat.{ℕ, _+_, _≤_, _<_}
-use mathlib.Core.Path.{_≡_}
+use mathlib.Core.Path.{_≡_, refl, sym, ap, _∙_}
 use mathlib.Core.List.{List}
 use mathlib.Core.Logic.{_↔_}
+use lib.ListN.{length, drop}
+use Rattle.hextext.specs.declared.line.Line.{Line}
+use Rattle.hextext.specs.Text.{badLine, lineBytes}
+use Rattle.hextext.specs.Packed.{lineRead}
+use Rattle.sheet.specs.declared.table.Reading.{Reading}
 use Rattle.sheet.specs.Sheet.{Sheet}
 use Rattle.sheet.specs.Accepted.{Accepts}
+use Rattle.sheet.specs.Held.{LineHeld, readingOf, Reads}
+use Rattle.sheet.specs.Laws.{ill-formed}
+use Rattle.sheet.specs.Reading.{nothing}
+use Rattle.sheet.specs.Rest.{rest-held}
 use Rattle.sheet.specs.Multiplier.{withMultiplier, AlikeTexts, slid}
 use Rattle.sheet.specs.MultiplierLaws.{texts-alike, slid-accepted}
 use Rattle.plan.specs.Plan.{Prepared, ruleIn, firstCell}
@@ -79,3 +92,21 @@ find-skipped = sliding.skipped
 pub rules-grouped : (s : Sheet) (plan : List ℕ) → Prepared s plan → (q : ℕ) → q < 16
     → HeadGroup s q (ruleIn plan) (firstCell plan q) (firstCell plan (q + 1))
 rules-grouped s plan p q h = head-group p h
+
+-- ==== Document 02, (iv), one pass over a line. "Every result is the one it was": what meets `read`'s contract, which has not changed,
+-- gives one answer; so the build before and the build after give the same.
+pub read-one-answer : (text : List ℕ) (r q : Reading) → Reads text r → Reads text q → r ≡ q
+read-one-answer text r q e f = e ∙ sym f
+
+-- The first bad line of a text goes before every refusal but 1, also where it stands behind a line that is refused.
+pub read-bad-first : (text : List ℕ) (r : Reading) → Reads text r → length text ≤ 16384 → (badLine text ≡ 0 → ⊥)
+    → (r .number ≡ 2) × (r .line ≡ badLine text)
+unfolding readingOf
+read-bad-first text r e fits bad =
+    let is = e ∙ ap readingOf (ill-formed text fits (badLine text) refl bad) in
+    (ap (λ (x : Reading). x .number) is, ap (λ (x : Reading). x .line) is)
+
+-- "Let its count and its fields come out of one loop": what the loop gives of a line that is well formed, of any length.
+pub line-fields : (text : List ℕ) (at : ℕ) → at < length text → (l : Line) → l ≡ lineRead text at → (l .count ≡ 0 → ⊥)
+    → LineHeld l (lineBytes (drop at text))
+line-fields text at inside l is filled = rest-held text at inside l is nothing 0 filled

@@ -9,29 +9,28 @@ use lib.ListN.{length, getD, set, length-append}
 use borrow.Author.Tests.{lt-ltb, le-ltb}
 use Rattle.slices.specs.Over.{over}
 use Rattle.slices.specs.Pad.{pad, pad-more}
-use Rattle.sheet.specs.declared.line.Line.{Line}
 use Rattle.sheet.specs.Reading.{allBelow, bytesFrom}
 use Rattle.sheet.specs.Held.{flat, childCells}
 use Rattle.sheet.specs.Children.{length-flat}
 use Rattle.sheet.specs.Laws.{length-bytes}
 
-module _ (l : Line) where
+module _ (l : List ℕ) where
   -- the next of what is left, at the code's j + 5
-  pub bytes-step : (k j : ℕ) → j < k → bytesFrom (k - j) (j + 5) l ≡ getD (l .bytes) (j + 5) 0 ∷ bytesFrom (k - (j + 1)) (j + 1 + 5) l
+  pub bytes-step : (k j : ℕ) → j < k → bytesFrom (k - j) (j + 5) l ≡ getD l (j + 5) 0 ∷ bytesFrom (k - (j + 1)) (j + 1 + 5) l
   unfolding bytesFrom
   bytes-step k j h =
       let e : k - j ≡ suc (k - (j + 1)) = omega arith in
       let f : j + 5 + 1 ≡ j + 1 + 5 = omega arith in
-      ap (λ (n : ℕ). bytesFrom n (j + 5) l) e ∙ ap (λ (n : ℕ). getD (l .bytes) (j + 5) 0 ∷ bytesFrom (k - (j + 1)) n l) f
+      ap (λ (n : ℕ). bytesFrom n (j + 5) l) e ∙ ap (λ (n : ℕ). getD l (j + 5) 0 ∷ bytesFrom (k - (j + 1)) n l) f
 
   -- one more at the end
-  pub bytes-snoc : (k i : ℕ) → bytesFrom (suc k) i l ≡ bytesFrom k i l ++ (getD (l .bytes) (k + i) 0 ∷ [])
+  pub bytes-snoc : (k i : ℕ) → bytesFrom (suc k) i l ≡ bytesFrom k i l ++ (getD l (k + i) 0 ∷ [])
   unfolding bytesFrom
-  bytes-snoc zero i = let e : i ≡ 0 + i = omega arith in ap (λ (n : ℕ). getD (l .bytes) n 0 ∷ []) e
+  bytes-snoc zero i = let e : i ≡ 0 + i = omega arith in ap (λ (n : ℕ). getD l n 0 ∷ []) e
   bytes-snoc (suc k) i =
       let e : k + (i + 1) ≡ suc k + i = omega arith in
-      ap (λ (t : List ℕ). getD (l .bytes) i 0 ∷ t) (bytes-snoc k (i + 1)
-      ∙ ap (λ (n : ℕ). bytesFrom k (i + 1) l ++ (getD (l .bytes) n 0 ∷ [])) e)
+      ap (λ (t : List ℕ). getD l i 0 ∷ t) (bytes-snoc k (i + 1)
+      ∙ ap (λ (n : ℕ). bytesFrom k (i + 1) l ++ (getD l n 0 ∷ [])) e)
 
 pub below-yes : (q x : ℕ) (xs : List ℕ) → x < q → allBelow q (x ∷ xs) ≡ allBelow q xs
 unfolding allBelow
@@ -70,11 +69,11 @@ unfolding childCells
 flat-done rs ks h = sym (ap (pad 512 0) (flat-more rs ks) ∙ pad-tail 512 8 (flat rs) ks h)
 
 -- byte j of the parts, at its place
-pub cell-more : (l : Line) (rs : List (List ℕ)) (n j : ℕ) (cells : List ℕ) → length rs ≡ n → n < 64 → j < 8
+pub cell-more : (l : List ℕ) (rs : List (List ℕ)) (n j : ℕ) (cells : List ℕ) → length rs ≡ n → n < 64 → j < 8
     → cells ≡ pad 512 0 (flat rs ++ bytesFrom j 5 l)
-    → set cells (n * 8 + j) (getD (l .bytes) (j + 5) 0) ≡ pad 512 0 (flat rs ++ bytesFrom (j + 1) 5 l)
+    → set cells (n * 8 + j) (getD l (j + 5) 0) ≡ pad 512 0 (flat rs ++ bytesFrom (j + 1) 5 l)
 cell-more l rs n j cells q hn hj e =
-    let b = getD (l .bytes) (j + 5) 0 in
+    let b = getD l (j + 5) 0 in
     pad-more 512 0 (flat rs ++ bytesFrom j 5 l) cells (n * 8 + j) b e
     (length-append (flat rs) (bytesFrom j 5 l) ∙ omega (arith, length-flat rs, length-bytes l j 5)) (omega arith)
     ∙ ap (pad 512 0) (append-assoc (flat rs) (bytesFrom j 5 l) (b ∷ []) ∙ ap (λ (t : List ℕ). flat rs ++ t) (sym (bytes-snoc l j 5))

@@ -1,3 +1,3 @@
 pub mod Flats
-pub mod Tables
 pub mod RuleLoop
+pub mod Tables

@@ -6,26 +6,22 @@ use mathlib.Core.List.{List, [], _∷_, _++_, map}
 use native.Mathlib.Omega.{arith}
 use lib.ListN.{length, drop, set, length-map}
 use lib.Dec.{ltb}
-use borrow.Author.Tests.{eq-eqb, ne-eqb, lt-ltb, le-ltb, ltb-true}
-use Rattle.hextext.specs.Text.{lines, lineBytes, lineSize}
-use Rattle.hextext.specs.Laws.{lines-at, lines-end, byte-small}
-use Rattle.sheet.specs.declared.line.Line.{Line}
+use borrow.Author.Tests.{eq-eqb, ne-eqb, lt-ltb, ltb-true}
+use Rattle.hextext.specs.declared.line.Line.{Line}
+use Rattle.hextext.specs.Text.{lineBytes}
+use Rattle.hextext.specs.Packed.{lineRead}
 use Rattle.sheet.specs.declared.table.RuleCell.{RuleCell}
 use Rattle.sheet.specs.declared.table.GrammarTable.{GrammarTable}
 use Rattle.grammar.specs.declared.Rules.{Rules}
 use Rattle.sheet.specs.Sheet.{Grammar}
-use Rattle.sheet.specs.Outcome.{refused}
-use Rattle.sheet.specs.Reading.{demand, byte, bytesFrom, lineOf, ruleRefusal, ruleOf, withRule, playingRefusal, inRules, rulesRefusal}
-use Rattle.sheet.specs.Reading.{refusal}
-use Rattle.sheet.specs.Reading.{after, readLines}
-use Rattle.sheet.specs.Held.{held, grammarTable, partsOf, childCells}
-use Rattle.grammar.specs.Contracts.{cellOf, arityOf}
+use Rattle.sheet.specs.Reading.{demand, byte, bytesFrom, ruleRefusal, ruleOf, withRule, nothing, inRules, rulesRefusal, refusal, after}
+use Rattle.sheet.specs.Rest.{readRest, stopped, rest-end, rest-bad, rest-stop, rest-held, rest-on}
+use Rattle.sheet.specs.Held.{LineHeld, grammarTable, partsOf, childCells}
 use Rattle.sheet.specs.Good.{GoodRules}
 use Rattle.sheet.specs.SoFar.{GoodProgress}
-use Rattle.grammar.specs.Contracts.{RulesDone, RulesRead}
-use Rattle.sheet.specs.Laws.{demand-zero, read-on, read-stop, end-in-rules}
-use Rattle.sheet.specs.GoodLaws.{Small, good-after}
-use Rattle.sheet.specs.Buffer.{byte-held, refusal-held, after-held}
+use Rattle.sheet.specs.Laws.{demand-zero, end-in-rules}
+use Rattle.sheet.specs.GoodLaws.{line-small, good-after}
+use Rattle.grammar.specs.Contracts.{cellOf, arityOf, RulesDone, RulesRead}
 use Rattle.grammar.proofs.Tables.{cell-is, parts-are, room, rule-stored}
 
 -- of the lines from line n, at place `at`, on, those before line n′, at place at′, have been read as rules behind those of h
@@ -33,7 +29,7 @@ pub record RulesSoFar (t : List ℕ) (at n : ℕ) (h : Grammar) (table : Grammar
   pub grammar : Grammar
   pub good : GoodRules grammar
   pub table-is : table ≡ grammarTable grammar
-  pub rest : readLines (inRules h) n (lines (drop at t)) ≡ readLines (inRules grammar) n′ (lines (drop at′ t))
+  pub rest : readRest (inRules h) n (drop at t) ≡ readRest (inRules grammar) n′ (drop at′ t)
 
 -- none yet
 pub rules-none : (t : List ℕ) (at n : ℕ) (h : Grammar) (table : GrammarTable) → GoodRules h → table ≡ grammarTable h
@@ -47,124 +43,138 @@ module _ {t : List ℕ} {at n : ℕ} {h : Grammar} {table : GrammarTable} {at′
   abbrev b : List ℕ
   b = lineBytes (drop at′ t)
 
-  abbrev L : Line
-  L = lineOf b
+  -- reading stops at line n′ with number k
+  abbrev Stops : ℕ → Type 0
+  Stops k = readRest (inRules h) n (drop at t) ≡ stopped k n′ (drop at′ t)
 
   -- no line is left
-  pub rules-end : length t ≤ at′ → readLines (inRules h) n (lines (drop at t)) ≡ refused 3 n′
-  rules-end past = so .rest ∙ ap (readLines (inRules g) n′) (lines-end t at′ past) ∙ end-in-rules g n′
-
-  small : Small L
-  unfolding lineOf
-  small i = byte-small (drop at′ t) i
+  pub rules-end : length t ≤ at′ → Stops 3
+  rules-end past = so .rest ∙ rest-end (inRules g) n′ t at′ 3 past (end-in-rules g n′)
 
   -- another line is read
-  module _ (inside : at′ < length t) (l : Line) (held-is : l ≡ held b) where
-    line-rest : readLines (inRules h) n (lines (drop at t)) ≡ readLines (inRules g) n′ (b ∷ lines (drop (at′ + lineSize (drop at′ t)) t))
-    line-rest = so .rest ∙ ap (readLines (inRules g) n′) (lines-at t at′ inside)
+  module _ (inside : at′ < length t) (l : Line) (is : l ≡ lineRead t at′) where
+    -- a bad one
+    pub rules-bad : 0 < n′ → l .count ≡ 0 → (k : ℕ) → Stops k
+    rules-bad pos e k = so .rest ∙ rest-bad t at′ inside l is (inRules g) n′ pos e k
 
-    count-is : table .count ≡ length (g .rules)
-    unfolding grammarTable
-    count-is = ap (λ (x : GrammarTable). x .count) (so .table-is)
+    module _ (filled : l .count ≡ 0 → ⊥) where
+      pub line-held : LineHeld l b
+      line-held = rest-held t at′ inside l is (inRules g) n′ filled
 
-    refusal-is : refusal (inRules g) l ≡ refusal (inRules g) L
-    refusal-is = ap (refusal (inRules g)) held-is ∙ refusal-held b (inRules g)
+      count-is : table .count ≡ length (g .rules)
+      unfolding grammarTable
+      count-is = ap (λ (x : GrammarTable). x .count) (so .table-is)
 
-    stop : (k : ℕ) → k ≡ refusal (inRules g) l → (k ≡ 0 → ⊥) → readLines (inRules h) n (lines (drop at t)) ≡ refused k n′
-    stop k e f = line-rest ∙ read-stop (inRules g) n′ b _ k (e ∙ refusal-is) f
+      stop : (k : ℕ) → k ≡ refusal (inRules g) b → (k ≡ 0 → ⊥) → Stops k
+      stop k e f = so .rest ∙ rest-stop t at′ inside l is (inRules g) n′ k e f
 
-    -- the `45` line, whose refusal by the number of rules is k
-    module _ (kind : byte l 0 ≡ 0x45) (k : ℕ) (number : k ≡ demand (ltb 0 (table .count)) 3 0) where
-      -- no rule stands before it
-      early : (m : ℕ) → m ≡ length (g .rules) → (demand (ltb 0 m) 3 0 ≡ 0 → ⊥) → 3 ≡ refusal (inRules g) l
-      unfolding refusal rulesRefusal
-      early zero e f = rw (eq-eqb (byte l 0) 0x45 kind, ← e) refl
-      early (suc m) e f = absurd (f (simp (lt-ltb 0 (suc m) (omega arith))))
+      -- the `45` line, whose refusal by the number of rules is k
+      module _ (kind : l .kind ≡ 0x45) (k : ℕ) (number : k ≡ demand (ltb 0 (table .count)) 3 0) where
+        -- no rule stands before it
+        early : (m : ℕ) → m ≡ length (g .rules) → (demand (ltb 0 m) 3 0 ≡ 0 → ⊥) → 3 ≡ refusal (inRules g) b
+        unfolding refusal rulesRefusal
+        early zero e f = rw (eq-eqb (byte b 0) 0x45 (sym (line-held .kind) ∙ kind), ← e) refl
+        early (suc m) e f = absurd (f (simp (lt-ltb 0 (suc m) (omega arith))))
 
-      three : (m : ℕ) → (demand (ltb 0 m) 3 0 ≡ 0 → ⊥) → demand (ltb 0 m) 3 0 ≡ 3
-      three zero f = refl
-      three (suc m) f = absurd (f (simp (lt-ltb 0 (suc m) (omega arith))))
+        three : (m : ℕ) → (demand (ltb 0 m) 3 0 ≡ 0 → ⊥) → demand (ltb 0 m) 3 0 ≡ 3
+        three zero f = refl
+        three (suc m) f = absurd (f (simp (lt-ltb 0 (suc m) (omega arith))))
 
-      pub rules-early : (k ≡ 0 → ⊥) → readLines (inRules h) n (lines (drop at t)) ≡ refused k n′
-      rules-early f =
-          let g : demand (ltb 0 (table .count)) 3 0 ≡ 0 → ⊥ = λ z. f (number ∙ z) in
-          stop k (number ∙ three (table .count) g ∙ early (table .count) count-is g) f
+        pub rules-early : (k ≡ 0 → ⊥) → Stops k
+        rules-early f =
+            let g : demand (ltb 0 (table .count)) 3 0 ≡ 0 → ⊥ = λ z. f (number ∙ z) in
+            stop k (number ∙ three (table .count) g ∙ early (table .count) count-is g) f
 
-      -- and some do
-      pub rules-done : k ≡ 0 → (r : Rules) → r .grammar ≡ table → r .line ≡ n′ → r .next ≡ at′ → n′ ≤ at′ + 1 → RulesDone t at n h r
-      rules-done z r et el en line =
-          record {
-            grammar = g;
-            table = et ∙ so .table-is;
-            good = so .good;
-            some-rule =
-                let m = ltb-true 0 (table .count) (demand-zero (ltb 0 (table .count)) 2 0 (sym number ∙ z) .0) in omega (arith, count-is);
-            inside = rw en inside;
-            line = rw (el, en) line;
-            kind = rw en (sym (ap (λ (x : Line). byte x 0) held-is ∙ byte-held b 0 (omega arith)) ∙ kind);
-            rest = rw (el, en) (so .rest);
-          }
-
-    -- a line of another kind, whose refusal is k
-    module _ (other : byte l 0 ≡ 0x45 → ⊥) (k : ℕ) (number : k ≡ ruleRefusal (table .nonterminals) (table .count) l) where
-      number-is : k ≡ refusal (inRules g) l
-      unfolding grammarTable refusal rulesRefusal
-      number-is =
-          number
-          ∙ (λ j. ruleRefusal (so .table-is j .nonterminals) (so .table-is j .count) l)
-          ∙ simp (ne-eqb (byte l 0) 0x45 other)
-
-      -- and refused
-      pub rules-stop : (k ≡ 0 → ⊥) → readLines (inRules h) n (lines (drop at t)) ≡ refused k n′
-      rules-stop = stop k number-is
-
-      -- or taken
-      module _ (z : k ≡ 0) where
-        rule-room : (table .count < 64) × (arityOf l ≤ 8)
-        rule-room = room l (table .nonterminals) (table .count) (sym number ∙ z)
-
-        met : refusal (inRules g) L ≡ 0
-        met = sym (number-is ∙ refusal-is) ∙ z
-
-        next : after (inRules g) L ≡ inRules (withRule g (ruleOf l))
-        unfolding after
-        next =
-            sym (ap (after (inRules g)) held-is ∙ after-held b (inRules g) met)
-            ∙ simp (ne-eqb (byte l 0) 0x45 other)
-
-        pub rules-more : (cell : RuleCell) → cell ≡ cellOf l → (children : List ℕ) (m : ℕ) → m ≡ arityOf l
-            → ((rs : List (List ℕ)) → length rs ≡ table .count → table .children ≡ childCells rs
-            → children ≡ childCells (rs ++ (bytesFrom m 5 l ∷ [])))
-            → (table′ : GrammarTable)
-            → table′ ≡ record {
-              nonterminals = table .nonterminals;
-              start = table .start;
-              multiplier = table .multiplier;
-              count = table .count + 1;
-              rules = set (table .rules) (table .count) cell;
-              children = children;
-            }
-            → (at″ : ℕ) → at″ ≡ at′ + lineSize (drop at′ t) → RulesSoFar t at n h table′ at″ (n′ + 1)
-        unfolding grammarTable
-        rules-more cell ec children m em put table′ et at″ ea =
-            let e = so .table-is in
-            let counted = length-map (g .rules) partsOf ∙ sym (ap (λ (x : GrammarTable). x .count) e) in
-            let parts = put (map partsOf (g .rules)) counted (ap (λ (x : GrammarTable). x .children) e)
-            ∙ ap (λ (x : List ℕ). childCells (map partsOf (g .rules) ++ (x ∷ []))) (ap (λ (x : ℕ). bytesFrom x 5 l) em ∙ parts-are l) in
+        -- and some do
+        pub rules-done : k ≡ 0 → n′ ≤ at′ + 1 → 0 < n′
+            → RulesDone t at n h (record { number = k; line = n′; at = at′; last = l; grammar = table })
+        rules-done z line pos =
             record {
-              grammar = withRule g (ruleOf l);
-              good = subst GoodProgress next (good-after (inRules g) L small (so .good) met);
-              table-is = et ∙ rule-stored g table (ruleOf l) cell children e (rule-room .0) (ec ∙ cell-is l) parts;
-              rest =
-                  rw ea (line-rest ∙ read-on (inRules g) n′ b _ met
-                  ∙ ap (λ x. readLines x (n′ + 1) (lines (drop (at′ + lineSize (drop at′ t)) t))) next);
+              grammar = g;
+              table = so .table-is;
+              good = so .good;
+              some-rule =
+                  let m = ltb-true 0 (table .count) (demand-zero (ltb 0 (table .count)) 2 0 (sym number ∙ z) .0) in
+                  omega (arith, count-is);
+              inside = inside;
+              line = line;
+              numbered = pos;
+              last = is;
+              filled = omega (arith, filled);
+              kind = kind;
+              rest = so .rest;
             }
 
--- room for a rule, of the code's own numbers
-pub rule-fits : (l : Line) (q n k : ℕ) → k ≡ ruleRefusal q n l → k ≡ 0 → (n < 64) × (arityOf l ≤ 8)
-rule-fits l q n k e z = room l q n (sym e ∙ z)
+      -- a line of another kind, whose refusal is k
+      module _ (other : l .kind ≡ 0x45 → ⊥) (k : ℕ) (number : k ≡ ruleRefusal (table .nonterminals) (table .count) b) where
+        not-end : byte b 0 ≡ 0x45 → ⊥
+        not-end e = other (line-held .kind ∙ e)
 
--- what is returned where a line is refused, or none is left
-pub rules-refused : {t : List ℕ} {at n : ℕ} {h : Grammar} (r : Rules) → (r .number ≡ 0 → ⊥)
-    → readLines (inRules h) n (lines (drop at t)) ≡ refused (r .number) (r .line) → RulesRead t at n h r
-rules-refused r f e = record { stopped = λ _. e; done = λ z. absurd (f z) }
+        number-is : k ≡ refusal (inRules g) b
+        unfolding grammarTable refusal rulesRefusal
+        number-is =
+            number
+            ∙ (λ j. ruleRefusal (so .table-is j .nonterminals) (so .table-is j .count) b)
+            ∙ simp (ne-eqb (byte b 0) 0x45 not-end)
+
+        -- and refused
+        pub rules-stop : (k ≡ 0 → ⊥) → Stops k
+        rules-stop = stop k number-is
+
+        -- or taken
+        module _ (z : k ≡ 0) where
+          pub rule-room : (table .count < 64) × (arityOf b ≤ 8) × (l .count ≤ 13)
+          rule-room =
+              let r = room b (table .nonterminals) (table .count) (sym number ∙ z) in
+              (r .0, r .1, omega (arith, r .2, line-held .count))
+
+          met : refusal (inRules g) b ≡ 0
+          met = sym number-is ∙ z
+
+          next : after (inRules g) b ≡ inRules (withRule g (ruleOf b))
+          unfolding after
+          next = simp (ne-eqb (byte b 0) 0x45 not-end)
+
+          pub rules-more : (cell : RuleCell) → cell ≡ cellOf b → (children : List ℕ) (m : ℕ) → m ≡ arityOf b
+              → ((rs : List (List ℕ)) → length rs ≡ table .count → table .children ≡ childCells rs
+              → children ≡ childCells (rs ++ (bytesFrom m 5 b ∷ [])))
+              → (table′ : GrammarTable)
+              → table′ ≡ record {
+                nonterminals = table .nonterminals;
+                start = table .start;
+                multiplier = table .multiplier;
+                count = table .count + 1;
+                rules = set (table .rules) (table .count) cell;
+                children = children;
+              }
+              → RulesSoFar t at n h table′ (l .next) (n′ + 1)
+          unfolding grammarTable
+          rules-more cell ec children m em put table′ et =
+              let e = so .table-is in
+              let counted = length-map (g .rules) partsOf ∙ sym (ap (λ (x : GrammarTable). x .count) e) in
+              let parts = put (map partsOf (g .rules)) counted (ap (λ (x : GrammarTable). x .children) e)
+              ∙ ap (λ (x : List ℕ). childCells (map partsOf (g .rules) ++ (x ∷ []))) (ap (λ (x : ℕ). bytesFrom x 5 b) em ∙ parts-are b) in
+              record {
+                grammar = withRule g (ruleOf b);
+                good = subst GoodProgress next (good-after (inRules g) b (line-small b (line-held .small)) (so .good) met);
+                table-is = et ∙ rule-stored g table (ruleOf b) cell children e (rule-room .0) (ec ∙ cell-is b) parts;
+                rest =
+                    so .rest ∙ rest-on t at′ inside l is (inRules g) n′ filled met
+                    ∙ ap (λ x. readRest x (n′ + 1) (drop (l .next) t)) next;
+              }
+
+-- what is returned where a line is bad or refused, or none is left
+pub rules-refused : {t : List ℕ} {at n : ℕ} {h : Grammar} (r : Rules) → (r .number ≡ 0 → ⊥) → r .line ≤ r .at + 1
+    → readRest (inRules h) n (drop at t) ≡ stopped (r .number) (r .line) (drop (r .at) t) → RulesRead t at n h r
+rules-refused r f place e = record { stop = λ _. e; place = λ _. place; done = λ z. absurd (f z) }
+
+-- of the code's own numbers: what is held of a line, and that a line that adds a rule has room and is short
+module _ (t : List ℕ) (at : ℕ) (inside : at < length t) (l : Line) (is : l ≡ lineRead t at) (filled : l .count ≡ 0 → ⊥) where
+  pub held-at : LineHeld l (lineBytes (drop at t))
+  held-at = rest-held t at inside l is nothing 0 filled
+
+  pub rule-fits : (q n k : ℕ) → k ≡ ruleRefusal q n (lineBytes (drop at t)) → k ≡ 0
+      → (n < 64) × (arityOf (lineBytes (drop at t)) ≤ 8) × (l .count ≤ 13)
+  rule-fits q n k e z =
+      let r = room (lineBytes (drop at t)) q n (sym e ∙ z) in
+      (r .0, r .1, omega (arith, r .2, held-at .count))

@@ -7,7 +7,6 @@ use native.Mathlib.Omega.{arith}
 use lib.ListN.{length, set, length-append}
 use lib.Dec.{eqb}
 use Rattle.slices.specs.Pad.{pad-map-more}
-use Rattle.sheet.specs.declared.line.Line.{Line}
 use Rattle.sheet.specs.declared.table.RuleCell.{RuleCell}
 use Rattle.sheet.specs.declared.table.Rule.the-variants.{Division, Leaf}
 use Rattle.sheet.specs.declared.table.GrammarTable.{GrammarTable}
@@ -17,7 +16,7 @@ use Rattle.sheet.specs.Held.{noRule, ruleCell, partsOf, childCells, grammarTabl
 use Rattle.sheet.specs.Laws.{length-bytes, division-passed, leaf-passed}
 use Rattle.grammar.specs.Contracts.{cellOf, arityOf}
 
-module _ (l : Line) where
+module _ (l : List ℕ) where
   pub cell-is : cellOf l ≡ ruleCell (ruleOf l)
   unfolding cellOf ruleOf divisionOf leafOf
   cell-is = go (eqb (byte l 0) 0x44)
@@ -36,14 +35,15 @@ module _ (l : Line) where
       go true = refl
       go false = refl
 
-  -- a line that adds a rule has room for it
-  pub room : (q n : ℕ) → ruleRefusal q n l ≡ 0 → (n < 64) × (arityOf l ≤ 8)
+  -- a line that adds a rule has room for it, and is short
+  pub room : (q n : ℕ) → ruleRefusal q n l ≡ 0 → (n < 64) × (arityOf l ≤ 8) × (length l ≤ 13)
   unfolding ruleRefusal arityOf
   room q n z = go (eqb (byte l 0) 0x44) (eqb (byte l 0) 0x4C) z
     where
-      go : (a b : Bool) → cond a (divisionRefusal q n l) (cond b (leafRefusal q n l) 3) ≡ 0 → (n < 64) × (cond a (byte l 4) 0 ≤ 8)
-      go true b z = let p = division-passed q n l z in (p .room, p .most)
-      go false true z = (leaf-passed q n l z .room, omega arith)
+      go : (a b : Bool) → cond a (divisionRefusal q n l) (cond b (leafRefusal q n l) 3) ≡ 0
+          → (n < 64) × (cond a (byte l 4) 0 ≤ 8) × (length l ≤ 13)
+      go true b z = let p = division-passed q n l z in (p .room, p .most, omega (arith, p .count, p .most))
+      go false true z = let p = leaf-passed q n l z in (p .room, omega arith, omega (arith, p .count))
       go false false z = let f : ⊥ = omega arith in absurd f
 
 -- a table with one rule more

@@ -1,22 +1,25 @@
 // The refusals of the lines of a grammar.
 ghost use mathlib.Core.Path.{_≡_};
-ghost use Prim.Native.Nat.{_≤_};
+ghost use mathlib.Core.List.{List};
+ghost use Prim.Native.Nat.{ℕ, _≤_};
 ghost use lib.Dec.{ltb};
 ghost use Rattle.sheet.specs.Reading.{demand, headRefusal, divisionRefusal, leafRefusal, ruleRefusal, allBelow, bytesFrom};
+ghost use Rattle.sheet.specs.Held.{LineHeld};
+use hextext::Line;
 use sheet::KIND_MOST;
-use sheet::Line;
 use sheet::PARTS_MOST;
 use sheet::RULES_MOST;
+use sheet::byte_at;
 
 // The refusal of a `47` line; 0: none.
 pub fn head_refusal(l: Line) -> u8
-    ensures { λ r. ⌜ r ≡ headRefusal l ⌝ }
+    ensures { λ r. ⌜ ((b : List ℕ) → LineHeld l b → r ≡ headRefusal b) ⌝ }
 {
     if l.count != 5 {
         return 4;
     }
-    let nonterminals = l.bytes[1];
-    let start = l.bytes[2];
+    let nonterminals = byte_at(l, 1);
+    let start = byte_at(l, 2);
     if nonterminals < 1 {
         return 5;
     }
@@ -31,12 +34,12 @@ pub fn head_refusal(l: Line) -> u8
 
 // Whether k nonterminals of a line, from byte 5 on, are all below q.
 fn all_below(q: u8, k: usize, l: Line) -> bool
-    requires { ⌜ k ≤ 8 ⌝ }
-    ensures { λ r. ⌜ r ≡ allBelow q (bytesFrom k 5 l) ⌝ }
+    requires { ⌜ (k ≤ 8) × (l .count ≤ 13) ⌝ }
+    ensures { λ r. ⌜ ((b : List ℕ) → LineHeld l b → r ≡ allBelow q (bytesFrom k 5 b)) ⌝ }
 {
     let mut j: usize = 0;
     while j < k {
-        let x = l.bytes[j + 5];
+        let x = byte_at(l, j + 5);
         j += 1;
         if q <= x {
             return false;
@@ -47,13 +50,13 @@ fn all_below(q: u8, k: usize, l: Line) -> bool
 
 // The refusal of a `44` line in a grammar of q nonterminals, after `count` rules; 0: none.
 fn division_refusal(q: u8, count: usize, l: Line) -> u8
-    ensures { λ r. ⌜ r ≡ divisionRefusal q count l ⌝ }
+    ensures { λ r. ⌜ ((b : List ℕ) → LineHeld l b → r ≡ divisionRefusal q count b) ⌝ }
 {
     if l.count < 5 {
         return 4;
     }
-    let head = l.bytes[1];
-    let k = l.bytes[4] as usize;
+    let head = byte_at(l, 1);
+    let k = byte_at(l, 4) as usize;
     if k < 2 {
         return 5;
     }
@@ -77,13 +80,13 @@ fn division_refusal(q: u8, count: usize, l: Line) -> u8
 
 // The refusal of a `4C` line in a grammar of q nonterminals, after `count` rules; 0: none.
 fn leaf_refusal(q: u8, count: usize, l: Line) -> u8
-    ensures { λ r. ⌜ r ≡ leafRefusal q count l ⌝ }
+    ensures { λ r. ⌜ ((b : List ℕ) → LineHeld l b → r ≡ leafRefusal q count b) ⌝ }
 {
     if l.count != 5 {
         return 4;
     }
-    let head = l.bytes[1];
-    let n = l.bytes[4];
+    let head = byte_at(l, 1);
+    let n = byte_at(l, 4);
     if q <= head {
         return 5;
     }
@@ -98,9 +101,9 @@ fn leaf_refusal(q: u8, count: usize, l: Line) -> u8
 
 // The refusal of a line that is to add a rule, after `count` rules; 0: none.
 pub fn rule_refusal(q: u8, count: usize, l: Line) -> u8
-    ensures { λ r. ⌜ r ≡ ruleRefusal q count l ⌝ }
+    ensures { λ r. ⌜ ((b : List ℕ) → LineHeld l b → r ≡ ruleRefusal q count b) ⌝ }
 {
-    let kind = l.bytes[0];
+    let kind = l.kind;
     if kind == 0x44 {
         return division_refusal(q, count, l);
     }

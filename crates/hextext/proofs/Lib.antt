@@ -1,4 +1,6 @@
 pub mod BadSteps
+pub mod DigitSteps
 pub mod FieldSteps
 pub mod LineSteps
+pub mod PackSteps
 pub mod WriteSteps

@@ -11,23 +11,51 @@ use Rattle.slices.specs.Lookup.{drop-step}
 use Rattle.hextext.specs.Text.{pair, lineBytes, lineSize, NextLine}
 use Rattle.hextext.specs.Laws.{bytes-closed, size-closed, bytes-pair, size-pair}
 
--- of the line that starts at `at`, the bytes in front of place i have been read: there are `count`, and they stand over the slice line₀
+-- the two bytes at a place, and the text behind them
+pub two-steps : (t : List ℕ) (i : ℕ) → i + 1 < length t → drop i t ≡ getD t i 0 ∷ getD t (i + 1) 0 ∷ drop (i + 1 + 1) t
+two-steps t i h = drop-step t i (omega arith) ∙ ap (λ (l : List ℕ). getD t i 0 ∷ l) (drop-step t (i + 1) h)
+
+-- of the line that starts at `at`, the bytes bs in front of place i have been read
+pub record Ahead (text : List ℕ) (at : ℕ) (bs : List ℕ) (i : ℕ) : Type 0 where
+  pub place : i ≡ at + 2 * length bs
+  pub bytes : lineBytes (drop at text) ≡ bs ++ lineBytes (drop i text)
+  pub size : at + lineSize (drop at text) ≡ i + lineSize (drop i text)
+
+-- none
+pub ahead-none : (text : List ℕ) (at : ℕ) → Ahead text at [] at
+ahead-none text at = record { place = omega arith; bytes = refl; size = refl }
+
+module _ {text : List ℕ} {at : ℕ} {bs : List ℕ} {i : ℕ} (a : Ahead text at bs i) where
+  -- no byte is left
+  pub ahead-all : lineBytes (drop i text) ≡ [] → lineBytes (drop at text) ≡ bs
+  ahead-all none = a .bytes ∙ ap (λ (l : List ℕ). bs ++ l) none ∙ append-nil bs
+
+  -- a pair is next
+  pub ahead-pair : i + 1 < length text → (getD text i 0 ≡ 10 → ⊥) → (b : ℕ) → b ≡ pair (getD text i 0) (getD text (i + 1) 0)
+      → Ahead text at (bs ++ (b ∷ [])) (i + 1 + 1)
+  ahead-pair h e b is =
+      let rest = drop (i + 1 + 1) text in
+      let next : lineBytes (drop i text) ≡ b ∷ lineBytes rest =
+      ap lineBytes (two-steps text i h) ∙ bytes-pair _ _ rest e ∙ ap (λ (x : ℕ). x ∷ lineBytes rest) (sym is) in
+      let s : lineSize (drop i text) ≡ 2 + lineSize rest = ap lineSize (two-steps text i h) ∙ size-pair _ _ rest e in
+      let one = length-append bs (b ∷ []) in
+      let p = a .place in
+      record {
+        place = omega arith;
+        bytes = a .bytes ∙ ap (λ (l : List ℕ). bs ++ l) next ∙ sym (append-assoc bs (b ∷ []) (lineBytes rest));
+        size = a .size ∙ omega arith;
+      }
+
+-- the same, and the bytes stand over the slice line₀
 pub record Read (text : List ℕ) (at : ℕ) (line₀ line : List ℕ) (count i : ℕ) : Type 0 where
   pub front : List ℕ
   pub counted : length front ≡ count
-  pub place : i ≡ at + 2 * count
+  pub ahead : Ahead text at front i
   pub held : line ≡ over front line₀
-  pub bytes : lineBytes (drop at text) ≡ front ++ lineBytes (drop i text)
-  pub size : at + lineSize (drop at text) ≡ i + lineSize (drop i text)
 
 -- nothing has been read
 pub read-none : (text : List ℕ) (at : ℕ) (line₀ : List ℕ) → Read text at line₀ line₀ 0 at
-read-none text at line₀ =
-    record { front = []; counted = refl; place = omega arith; held = sym (over-nil line₀); bytes = refl; size = refl }
-
--- the two bytes at a place, and the text behind them
-two-steps : (t : List ℕ) (i : ℕ) → i + 1 < length t → drop i t ≡ getD t i 0 ∷ getD t (i + 1) 0 ∷ drop (i + 1 + 1) t
-two-steps t i h = drop-step t i (omega arith) ∙ ap (λ (l : List ℕ). getD t i 0 ∷ l) (drop-step t (i + 1) h)
+read-none text at line₀ = record { front = []; counted = refl; ahead = ahead-none text at; held = sym (over-nil line₀) }
 
 -- some of the line has been read
 module _ {text : List ℕ} {at : ℕ} {line₀ line : List ℕ} {count i : ℕ} (r : Read text at line₀ line count i) where
@@ -39,11 +67,10 @@ module _ {text : List ℕ} {at : ℕ} {line₀ line : List ℕ} {count i : ℕ} 
   ended : {next : ℕ} → lineBytes (drop i text) ≡ [] → i + lineSize (drop i text) ≡ next
       → NextLine text at line₀ line (record { count = count; next = next })
   ended none s =
-      let whole : lineBytes (drop at text) ≡ r .front =
-      r .bytes ∙ ap (λ (l : List ℕ). r .front ++ l) none ∙ append-nil (r .front) in
+      let whole = ahead-all (r .ahead) none in
       record {
         count = sym (r .counted) ∙ ap length (sym whole);
-        next = sym s ∙ sym (r .size);
+        next = sym s ∙ sym (r .ahead .size);
         bytes = r .held ∙ ap (λ (l : List ℕ). over l line₀) (sym whole);
       }
 
@@ -71,17 +98,11 @@ module _ {text : List ℕ} {at : ℕ} {line₀ line : List ℕ} {count i : ℕ} 
   module _ (h : i + 1 < length text) (e : getD text i 0 ≡ 10 → ⊥) (b : ℕ) (is : b ≡ pair (getD text i 0) (getD text (i + 1) 0)) where
     read-pair : (line₁ : List ℕ) → line₁ ≡ over (r .front ++ (b ∷ [])) line₀ → Read text at line₀ line₁ (count + 1) (i + 1 + 1)
     read-pair line₁ w =
-        let rest = drop (i + 1 + 1) text in
-        let bs : lineBytes (drop i text) ≡ b ∷ lineBytes rest =
-        ap lineBytes (two-steps text i h) ∙ bytes-pair _ _ rest e ∙ ap (λ (x : ℕ). x ∷ lineBytes rest) (sym is) in
-        let s : lineSize (drop i text) ≡ 2 + lineSize rest = ap lineSize (two-steps text i h) ∙ size-pair _ _ rest e in
         record {
           front = r .front ++ (b ∷ []);
           counted = simp length-append (omega arith);
-          place = omega arith;
+          ahead = ahead-pair (r .ahead) h e b is;
           held = w;
-          bytes = r .bytes ∙ ap (λ (l : List ℕ). r .front ++ l) bs ∙ sym (append-assoc (r .front) (b ∷ []) (lineBytes rest));
-          size = r .size ∙ omega arith;
         }
 
     -- with a cell for its byte

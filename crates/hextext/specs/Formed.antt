@@ -26,7 +26,7 @@ by-or true y e f g = f refl
 by-or false y e f g = g e
 
 -- a digit that is read is written as it was
-digit-same : (b : ℕ) → isDigit b ≡ true → digitOf (value b) ≡ b
+pub digit-same : (b : ℕ) → isDigit b ≡ true → digitOf (value b) ≡ b
 unfolding isDigit
 digit-same b e =
     by-or (leb 48 b && leb b 57) (leb 65 b && leb b 70) e
@@ -40,7 +40,7 @@ digit-same b e =
     rw (value-letter b l m, digit-of-letter (b - 55) (omega arith)) (omega arith))
 
 -- a digit that is written is a digit
-written-digit : (n : ℕ) → n < 16 → isDigit (digitOf n) ≡ true
+pub written-digit : (n : ℕ) → n < 16 → isDigit (digitOf n) ≡ true
 unfolding isDigit
 written-digit n h = go (decLt n 10)
   where
@@ -68,16 +68,16 @@ pair-digits a b =
 -- ---- one byte in the search for a bad line
 
 -- the choice that `badFrom` makes at a byte
-abbrev step : (x y z : Bool) (n closed more : ℕ) → ℕ
+abbrev pub step : (x y z : Bool) (n closed more : ℕ) → ℕ
 step x y z n c d = elim x [ true ↦ elim y [ true ↦ c | false ↦ n ] | false ↦ elim z [ true ↦ d | false ↦ n ] ]
 
 module _ (n : ℕ) (p : Place) (a : ℕ) (t : List ℕ) where
-  by-step : badFrom n p (a ∷ t) ≡ step (eqb a 10) (mayClose p) (isDigit a) n (badFrom (n + 1) first t) (badFrom n (afterDigit p) t)
+  pub by-step : badFrom n p (a ∷ t) ≡ step (eqb a 10) (mayClose p) (isDigit a) n (badFrom (n + 1) first t) (badFrom n (afterDigit p) t)
   unfolding badFrom
   by-step = refl
 
   -- a digit goes on in the line
-  at-digit : (a ≡ 10 → ⊥) → isDigit a ≡ true → badFrom n p (a ∷ t) ≡ badFrom n (afterDigit p) t
+  pub at-digit : (a ≡ 10 → ⊥) → isDigit a ≡ true → badFrom n p (a ∷ t) ≡ badFrom n (afterDigit p) t
   at-digit f d = by-step ∙ rw (ne-eqb a 10 f, d) refl
 
   -- where no line is bad, a byte that closes none is a digit
@@ -104,11 +104,11 @@ odd-no-end n h e = omega arith
 -- ---- the first line
 
 -- a place behind whole pairs, by whether the line has one
-abbrev place : Bool → Place
+abbrev pub place : Bool → Place
 place true = even
 place false = first
 
-after-place : (c : Bool) → afterDigit (place c) ≡ odd
+pub after-place : (c : Bool) → afterDigit (place c) ≡ odd
 after-place true = refl
 after-place false = refl
 

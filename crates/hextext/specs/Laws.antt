@@ -93,7 +93,7 @@ by-first {P} a f g = go (ℕ-discrete a 10)
     go (no e) = g e
 
 -- the lines of a text are its first line and those behind it
-lines-first : (t : List ℕ) → 0 < length t → lines t ≡ lineBytes t ∷ lines (drop (lineSize t) t)
+pub lines-first : (t : List ℕ) → 0 < length t → lines t ≡ lineBytes t ∷ lines (drop (lineSize t) t)
 unfolding lines lineBytes lineSize
 lines-first [] h = let f : ⊥ = omega arith in absurd f
 lines-first (a ∷ []) h = refl
@@ -134,17 +134,6 @@ module _ (t : List ℕ) (i : ℕ) where
   some-left : i < length t → 0 < length (drop i t)
   some-left h = simp length-drop (omega arith)
 
-  -- past the end there is no line
-  pub lines-end : length t ≤ i → lines (drop i t) ≡ []
-  unfolding lines
-  lines-end h = simp (drop-of-length-le t h)
-
-  -- before the end there is one, and the lines behind it start at the place behind it
-  pub lines-at : i < length t → lines (drop i t) ≡ lineBytes (drop i t) ∷ lines (drop (i + lineSize (drop i t)) t)
-  lines-at h =
-      lines-first (drop i t) (some-left h)
-      ∙ ap (λ (l : List ℕ). lineBytes (drop i t) ∷ lines l) (drop-drop (lineSize (drop i t)) i t)
-
   -- it takes one byte or more
   pub line-size-pos : i < length t → 0 < lineSize (drop i t)
   line-size-pos h = size-pos (drop i t) (some-left h)
@@ -174,12 +163,6 @@ lines-small (a ∷ b ∷ t) =
     by-first a
     (λ e. subst SmallLines (sym (lines-closed a e (b ∷ t))) (tt, lines-small (b ∷ t)))
     (λ e. subst SmallLines (sym (lines-pair a b t e)) (small-first (pair a b) (lines t) (pair-small a b) (lines-small t)))
-
--- a text with no bad line is not empty
-pub bad-empty : (t : List ℕ) → badLine t ≡ 0 → 0 < length t
-unfolding badLine
-bad-empty [] e = let f : ⊥ = omega arith in absurd f
-bad-empty (b ∷ t) e = omega arith
 
 first-most : (b : ℕ) (ls : List (List ℕ)) → length (onFirst b ls) ≤ 1 + length ls
 first-most b [] = omega arith

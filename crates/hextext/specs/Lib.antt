@@ -1,7 +1,10 @@
 pub mod Text
+pub mod Packed
+pub mod PackedLaws
 pub mod Written
 pub mod Fields
 pub mod Laws
 pub mod WrittenLaws
 pub mod Formed
+pub mod OnePass
 pub mod Refuted

@@ -6,17 +6,27 @@ use native.Mathlib.Omega.{arith}
 use lib.ListN.{getD}
 use Rattle.slices.specs.Over.{over, overFrom}
 use Rattle.hextext.specs.declared.Next.{Next}
-use Rattle.hextext.specs.Text.{badLine, lineBytes, lineSize, NextLine}
+use Rattle.hextext.specs.Text.{first, badFrom, lineBytes, lineSize, NextLine}
+use Rattle.hextext.specs.Packed.{lineRead}
 use Rattle.hextext.specs.Written.{lineText, hasRoom, LineWritten}
 
 -- the text `41` closed by 0A, which spells byte 65
 abbrev text : List ℕ
 text = 52 ∷ 49 ∷ 10 ∷ []
 
--- `bad_line` with lines numbered from 0: the text `4G` is bad at line 1
-numbered-from-0 : badLine (52 ∷ 71 ∷ 10 ∷ []) ≡ 0 → ⊥
-unfolding badLine
+-- `bad_from` that does not number the line that is bad: the text `4G` is bad at line 1
+numbered-from-0 : badFrom 1 first (52 ∷ 71 ∷ 10 ∷ []) ≡ 0 → ⊥
+unfolding badFrom
 numbered-from-0 e = omega arith
+
+-- `line_at` that does not pack a line's last byte, and one that takes an empty line as well formed
+last-byte-not-packed : lineRead text 0 .tail ≡ 0 → ⊥
+unfolding lineRead
+last-byte-not-packed e = omega arith
+
+empty-line-taken : lineRead (10 ∷ text) 0 .next ≡ 1 → ⊥
+unfolding lineRead
+empty-line-taken e = omega arith
 
 -- `next_line` that does not store a line's last byte
 last-byte-not-stored : (r : Next) → NextLine text 0 (0 ∷ []) (0 ∷ []) r → ⊥

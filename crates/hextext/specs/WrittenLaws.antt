@@ -23,7 +23,7 @@ module _ (n : ℕ) where
   digit-of-letter h = simp (le-ltb n 10 h) (omega arith)
 
 -- a digit written is read as the number
-digit-back : (n : ℕ) → n < 16 → value (digitOf n) ≡ n
+pub digit-back : (n : ℕ) → n < 16 → value (digitOf n) ≡ n
 digit-back n h = go (decLt n 10)
   where
     go : Dec (n < 10) → value (digitOf n) ≡ n

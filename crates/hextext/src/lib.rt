@@ -1,40 +1,20 @@
-// Lines of hexadecimal pairs, each closed by byte 0A: finding the first bad line of a text, reading the next line, writing a line, and
-// putting a field into a line. Texts and lines are of any length.
+// Lines of hexadecimal pairs, each closed by byte 0A: reading a line in one pass, finding the first bad line of a text, reading a line's
+// bytes into a slice, writing a line, and putting a field into a line. Texts and lines are of any length.
 ghost use mathlib.Core.Path.{_≡_};
-ghost use mathlib.Core.Bool.{_&&_};
 ghost use Prim.Native.Nat.{_<_};
-ghost use Rattle.hextext.specs.Text.{isDigit, value, pair, badLine, NextLine};
+ghost use Rattle.hextext.specs.Text.{value, pair, NextLine};
 ghost use Rattle.hextext.specs.Written.{digitOf, LineWritten};
 
 mod field;
+mod line;
 
 pub use field::put_field;
-
-// Whether a byte is a digit 0-9 A-F.
-fn is_digit(b: u8) -> bool
-    ensures { λ r. ⌜ r ≡ isDigit b ⌝ }
-{
-    if b < 48 {
-        return false;
-    }
-    if b <= 57 {
-        return true;
-    }
-    if b < 65 {
-        return false;
-    }
-    b <= 70
-}
-
-// Whether two bytes are digits.
-fn is_pair(first: u8, second: u8) -> bool
-    ensures { λ r. ⌜ r ≡ (isDigit first && isDigit second) ⌝ }
-{
-    if is_digit(first) {
-        return is_digit(second);
-    }
-    false
-}
+pub use line::Digits;
+pub use line::Line;
+pub use line::bad_from;
+pub use line::digit_table;
+pub use line::line_at;
+pub use line::no_line;
 
 // The value of a digit 0-9 A-F.
 fn digit_value(b: u8) -> u8
@@ -49,43 +29,6 @@ fn pair_value(high: u8, low: u8) -> u8
     ensures { λ r. ⌜ r ≡ pair high low ⌝ }
 {
     digit_value(high) * 16 + digit_value(low)
-}
-
-// The first bad line of a text, from 1; 0: there is none. A line is bad if it is empty, has an odd number of digits or a foreign byte,
-// or is the last and not closed; an empty text is bad at line 1. Two bytes a turn: a line is pairs, and `begun` says that it has one.
-pub fn bad_line(text: &[u8]) -> usize
-    ensures { λ r. ⌜ r ≡ badLine (now (text .entry)) ⌝ }
-{
-    if text.len() == 0 {
-        return 1;
-    }
-    let mut line: usize = 1;
-    let mut begun = false;
-    let mut i: usize = 0;
-    while i < text.len() {
-        let first = text[i];
-        i += 1;
-        if first == 10 {
-            if begun {
-                line += 1;
-                begun = false;
-            } else {
-                return line;
-            }
-        } else {
-            if text.len() <= i {
-                return line;
-            }
-            let second = text[i];
-            i += 1;
-            if is_pair(first, second) {
-                begun = true;
-            } else {
-                return line;
-            }
-        }
-    }
-    if begun { line } else { 0 }
 }
 
 // How many bytes a line has, and the place in the text behind it.

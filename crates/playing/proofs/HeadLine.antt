@@ -5,63 +5,59 @@ use mathlib.Core.List.{List}
 use native.Mathlib.Omega.{arith}
 use lib.ListN.{length, drop}
 use borrow.Author.Tests.{eq-eqb, lt-ltb}
-use Rattle.hextext.specs.Text.{lines, lineBytes, lineSize}
-use Rattle.hextext.specs.Laws.{lines-at}
-use Rattle.sheet.specs.declared.line.Line.{Line}
-use Rattle.sheet.specs.declared.table.TimingTable.{TimingTable}
+use Rattle.hextext.specs.declared.line.Line.{Line}
+use Rattle.hextext.specs.Text.{lineBytes}
+use Rattle.hextext.specs.Packed.{lineRead}
 use Rattle.playing.specs.declared.Take.{Take}
 use Rattle.sheet.specs.Sheet.{Grammar, Timing}
-use Rattle.sheet.specs.Outcome.{refused}
-use Rattle.sheet.specs.Reading.{byte, four, lineOf, playingRefusal, playingOf, timingOf, inRules, inOnsets, rulesRefusal, refusal, after}
-use Rattle.sheet.specs.Reading.{readLines}
-use Rattle.sheet.specs.Held.{held, noPlaying}
+use Rattle.sheet.specs.Reading.{byte, four, playingRefusal, playingOf, timingOf, nothing, inRules, inOnsets, rulesRefusal, refusal, after}
+use Rattle.sheet.specs.Rest.{readRest, stopped, rest-stop, rest-held, rest-on}
+use Rattle.sheet.specs.Held.{LineHeld, noPlaying}
 use Rattle.sheet.specs.SoFar.{GoodSoFar}
-use Rattle.sheet.specs.Laws.{read-on, read-stop}
 use Rattle.sheet.specs.GoodLaws.{good-start}
-use Rattle.sheet.specs.Buffer.{refusal-held, after-held, byte-held}
 use Rattle.playing.specs.Contracts.{TakeRead, OnsetsRead}
 
--- the timing of the line, from the code's number
-timing-is : (l : Line) (d : ℕ) → d ≡ four l 2 → timingOf l ≡ record { duration = d }
-unfolding timingOf
-timing-is l d e = λ j. record { duration = sym e j }
+-- the timing and the bars of the line, from the code's numbers
+module _ (b : List ℕ) (bars d : ℕ) (bars-are : bars ≡ byte b 1) (e : d ≡ four b 2) where
+  timing-is : timingOf b ≡ record { duration = d }
+  unfolding timingOf
+  timing-is = λ j. record { duration = sym e j }
 
-pub head-good : (l : Line) (d : ℕ) → d ≡ four l 2 → playingRefusal l ≡ 0 → GoodSoFar (record { duration = d }) (noPlaying (byte l 1)) 0
-unfolding playingOf
-head-good l d e z = subst (λ (x : Timing). GoodSoFar x (noPlaying (byte l 1)) 0) (timing-is l d e) (good-start l z)
+  pub head-good : playingRefusal b ≡ 0 → GoodSoFar (record { duration = d }) (noPlaying bars) 0
+  unfolding playingOf
+  head-good z = rw bars-are (subst (λ (x : Timing). GoodSoFar x (noPlaying (byte b 1)) 0) timing-is (good-start b z))
 
-module _ (t : List ℕ) (at n : ℕ) (inside : at < length t) (g : Grammar) (some : 1 ≤ length (g .rules))
-    (kind : byte (lineOf (lineBytes (drop at t))) 0 ≡ 0x45) (l : Line) (held-is : l ≡ held (lineBytes (drop at t))) where
+module _ (t : List ℕ) (at : ℕ) (inside : at < length t) (l : Line) (is : l ≡ lineRead t at) (filled : 0 < l .count) where
   abbrev b : List ℕ
   b = lineBytes (drop at t)
 
-  kind-is : byte l 0 ≡ 0x45
-  kind-is = ap (λ (x : Line). byte x 0) held-is ∙ byte-held b 0 (omega arith) ∙ kind
+  -- its fields
+  pub head-held : LineHeld l b
+  head-held = rest-held t at inside l is nothing 0 (λ z. omega arith)
 
-  refusal-is : playingRefusal l ≡ refusal (inRules g) (lineOf b)
-  unfolding refusal rulesRefusal
-  refusal-is =
-      sym (sym (ap (refusal (inRules g)) held-is ∙ refusal-held b (inRules g))
-      ∙ simp (eq-eqb (byte l 0) 0x45 kind-is, lt-ltb 0 (length (g .rules)) some))
+  module _ (n : ℕ) (g : Grammar) (some : 1 ≤ length (g .rules)) (kind : l .kind ≡ 0x45) where
+    kind-is : byte b 0 ≡ 0x45
+    kind-is = sym (head-held .kind) ∙ kind
 
-  pub head-refused : (k : ℕ) → k ≡ playingRefusal l → (k ≡ 0 → ⊥) → readLines (inRules g) n (lines (drop at t)) ≡ refused k n
-  head-refused k e f = ap (readLines (inRules g) n) (lines-at t at inside) ∙ read-stop (inRules g) n b _ k (e ∙ refusal-is) f
+    refusal-is : playingRefusal b ≡ refusal (inRules g) b
+    unfolding refusal rulesRefusal
+    refusal-is = sym (simp (eq-eqb (byte b 0) 0x45 kind-is, lt-ltb 0 (length (g .rules)) some))
 
-  module _ (met : playingRefusal l ≡ 0) where
-    after-is : after (inRules g) (lineOf b) ≡ inOnsets g (timingOf l) (playingOf l) 0
-    unfolding after
-    after-is =
-        sym (ap (after (inRules g)) held-is ∙ after-held b (inRules g) (sym refusal-is ∙ met))
-        ∙ simp (eq-eqb (byte l 0) 0x45 kind-is)
+    pub head-refused : (k : ℕ) → k ≡ playingRefusal b → (k ≡ 0 → ⊥) → readRest (inRules g) n (drop at t) ≡ stopped k n (drop at t)
+    head-refused k e f = rest-stop t at inside l is (inRules g) n k (e ∙ refusal-is) f
 
-    -- the onsets follow, from the place behind the line
-    pub head-on : (d : ℕ) → d ≡ four l 2 → (next : ℕ) → next ≡ at + lineSize (drop at t) → (r : Take)
-        → OnsetsRead t next (n + 1) g (byte l 1) (record { duration = d }) r → TakeRead (readLines (inRules g) n (lines (drop at t))) g r
-    unfolding playingOf
-    head-on d ed next en r onsets =
-        subst (λ o. TakeRead o g r)
-        (sym (ap (readLines (inRules g) n) (lines-at t at inside)
-        ∙ read-on (inRules g) n b _ (sym refusal-is ∙ met)
-        ∙ (λ j. readLines ((after-is ∙ ap (λ (x : Timing). inOnsets g x (playingOf l) 0) (timing-is l d ed)) j) (n + 1)
-        (lines (drop (sym en j) t)))))
-        onsets
+    module _ (met : playingRefusal b ≡ 0) where
+      after-is : after (inRules g) b ≡ inOnsets g (timingOf b) (playingOf b) 0
+      unfolding after
+      after-is = simp (eq-eqb (byte b 0) 0x45 kind-is)
+
+      -- the onsets follow, from the place behind the line
+      pub head-on : (bars d : ℕ) → bars ≡ byte b 1 → d ≡ four b 2 → (r : Take)
+          → OnsetsRead t (l .next) (n + 1) g bars (record { duration = d }) r → TakeRead t (readRest (inRules g) n (drop at t)) g r
+      unfolding playingOf
+      head-on bars d eb ed r onsets =
+          subst (λ o. TakeRead t o g r)
+          (sym (rest-on t at inside l is (inRules g) n (λ z. omega arith) (sym refusal-is ∙ met)
+          ∙ (λ j. readRest
+          ((after-is ∙ (λ i. inOnsets g (timing-is b bars d eb ed i) (noPlaying (sym eb i)) 0)) j) (n + 1) (drop (l .next) t))))
+          onsets

@@ -1,28 +1,29 @@
 -- The loop over the onset lines: what holds where some have been read, how a line keeps it, and how it ends. Assumes nothing.
 use Prim.Native.Nat.{ℕ, _+_, _<_, _≤_}
-use mathlib.Core.Path.{_≡_, refl, sym, ap, subst, _∙_}
+use mathlib.Core.Path.{_≡_, refl, sym, ap, _∙_}
 use mathlib.Core.List.{List, [], _∷_}
+use native.Mathlib.Nat.{le-trans, le-of-eq}
 use native.Mathlib.Omega.{arith}
-use lib.ListN.{length, drop, set, getD, length-append}
+use lib.ListN.{length, drop, set, length-append}
 use lib.Dec.{eqb}
-use Rattle.hextext.specs.Text.{lines, lineBytes, lineSize}
-use Rattle.hextext.specs.Laws.{lines-at, lines-end, line-within, line-size-pos}
-use Rattle.sheet.specs.declared.line.Line.{Line}
+use Rattle.hextext.specs.declared.line.Line.{Line}
+use Rattle.hextext.specs.Text.{lineBytes}
+use Rattle.hextext.specs.Packed.{lineRead}
+use Rattle.hextext.specs.Laws.{line-within, line-size-pos}
 use Rattle.sheet.specs.declared.table.PlayingTable.{PlayingTable}
 use Rattle.playing.specs.declared.onset.Latest.{Latest}
 use Rattle.playing.specs.declared.onset.OnsetStep.{OnsetStep}
 use Rattle.playing.specs.declared.Take.{Take}
 use Rattle.sheet.specs.Sheet.{Grammar, Playing, Timing, TimedSheet, inBar}
-use Rattle.sheet.specs.Outcome.{Outcome, refused, accepted}
-use Rattle.sheet.specs.Reading.{byte, four, lineOf, onsetRefusal, onsetOf, withOnset, inOnsets, refusal, after, readLines}
-use Rattle.sheet.specs.Held.{held, units, playingTable, noGrammar, noPlaying, micros}
+use Rattle.sheet.specs.Outcome.{Outcome, accepted}
+use Rattle.sheet.specs.Reading.{byte, four, onsetRefusal, onsetOf, withOnset, nothing, inOnsets, refusal, after}
+use Rattle.sheet.specs.Rest.{readRest, stopped, rest-end, rest-past, rest-bad, rest-stop, rest-held, rest-next, rest-on}
+use Rattle.sheet.specs.Held.{LineHeld, units, playingTable, noGrammar, noPlaying, micros}
 use Rattle.sheet.specs.SoFar.{GoodSoFar}
 use Rattle.playing.specs.Contracts.{latestOf, OnsetStepped, TakeRead}
 use Rattle.sheet.specs.Clock.{first-bar}
-use Rattle.sheet.specs.Laws.{cond-zero, onset-passed, read-on, read-stop, end-without, end-with}
+use Rattle.sheet.specs.Laws.{cond-zero, onset-passed, end-without, end-with}
 use Rattle.sheet.specs.GoodLaws.{good-onset}
-use Rattle.sheet.specs.Buffer.{byte-held}
-use Rattle.playing.proofs.OnsetSteps.{stepped-held}
 use Rattle.playing.proofs.Tables.{onset-stored}
 
 -- of the lines from line n, at place `at`, on, those before line n′, at place at′, have been read as k onsets
@@ -36,17 +37,17 @@ pub record OnsetsSoFar (t : List ℕ) (at n bars : ℕ) (timing : Timing) (table
   pub latest : s ≡ latestOf timing playing last
   pub within : at′ ≤ length t
   pub line : n′ ≤ at′ + 1
+  pub numbered : 0 < n′
   pub rest : (g : Grammar)
-      → readLines (inOnsets g timing (noPlaying bars) 0) n (lines (drop at t))
-      ≡ readLines (inOnsets g timing playing last) n′ (lines (drop at′ t))
+      → readRest (inOnsets g timing (noPlaying bars) 0) n (drop at t) ≡ readRest (inOnsets g timing playing last) n′ (drop at′ t)
 
 -- none yet
-pub onsets-none : (t : List ℕ) (at n bars : ℕ) (timing : Timing) (table : PlayingTable) → at ≤ length t → n ≤ at + 1
+pub onsets-none : (t : List ℕ) (at n bars : ℕ) (timing : Timing) (table : PlayingTable) → at ≤ length t → n ≤ at + 1 → 0 < n
     → GoodSoFar timing (noPlaying bars) 0
     → table ≡ playingTable (noPlaying bars)
     → OnsetsSoFar t at n bars timing table (record { time = micros 0; bar = 0; run = 0 }) at n 0
 unfolding inBar
-onsets-none t at n bars timing table w l good e =
+onsets-none t at n bars timing table w l pos good e =
     record {
       playing = noPlaying bars;
       last = 0;
@@ -57,6 +58,7 @@ onsets-none t at n bars timing table w l good e =
       latest = λ j. record { time = micros 0; bar = first-bar (timing .duration) j; run = 0 };
       within = w;
       line = l;
+      numbered = pos;
       rest = λ g. refl;
     }
 
@@ -68,92 +70,98 @@ module _ {t : List ℕ} {at n bars : ℕ} {timing : Timing} {table : PlayingTabl
   abbrev b : List ℕ
   b = lineBytes (drop at′ t)
 
+  -- reading stops at line n′ with number m
+  abbrev Stops : Grammar → ℕ → Type 0
+  Stops g m = readRest (inOnsets g timing (noPlaying bars) 0) n (drop at t) ≡ stopped m n′ (drop at′ t)
+
   -- another line is read
-  module _ (inside : at′ < length t) (l : Line) (held-is : l ≡ held b) (r : OnsetStep)
-      (step : (g : Grammar) (q : Playing) (last : ℕ) → GoodSoFar timing q last → bars ≡ q .bars → k ≡ length (q .onsets)
-      → s ≡ latestOf timing q last
-      → OnsetStepped g timing q last l r) where
-    stepped : (g : Grammar) → OnsetStepped g timing p (h .last) (lineOf b) r
-    stepped g =
-        stepped-held g timing p (h .last) b r
-        (subst (λ (x : Line). OnsetStepped g timing p (h .last) x r) held-is
-        (step g p (h .last) (h .good) (h .bars-are) (h .count) (h .latest)))
+  module _ (inside : at′ < length t) (l : Line) (is : l ≡ lineRead t at′) where
+    -- a bad one
+    pub onsets-bad : (g : Grammar) → l .count ≡ 0 → (m : ℕ) → Stops g m
+    onsets-bad g e m = h .rest g ∙ rest-bad t at′ inside l is (inOnsets g timing p (h .last)) n′ (h .numbered) e m
 
-    -- and refused
-    pub onsets-stop : (g : Grammar) → (r .number ≡ 0 → ⊥)
-        → readLines (inOnsets g timing (noPlaying bars) 0) n (lines (drop at t)) ≡ refused (r .number) n′
-    onsets-stop g f =
-        h .rest g
-        ∙ ap (readLines (inOnsets g timing p (h .last)) n′) (lines-at t at′ inside)
-        ∙ read-stop (inOnsets g timing p (h .last)) n′ b _ (r .number) (stepped g .number) f
+    -- one that is well formed
+    module _ (filled : l .count ≡ 0 → ⊥) (r : OnsetStep)
+        (step : (c : List ℕ) → LineHeld l c → (g : Grammar) (q : Playing) (last : ℕ) → GoodSoFar timing q last → bars ≡ q .bars
+        → k ≡ length (q .onsets) → s ≡ latestOf timing q last → OnsetStepped g timing q last c r) where
+      line-held : LineHeld l b
+      line-held = rest-held t at′ inside l is nothing 0 filled
 
-    -- or taken
-    module _ (z : r .number ≡ 0) where
-      abbrev L : Line
-      L = lineOf b
+      stepped : (g : Grammar) → OnsetStepped g timing p (h .last) b r
+      stepped g = step b line-held g p (h .last) (h .good) (h .bars-are) (h .count) (h .latest)
 
-      met : onsetRefusal timing p (h .last) L ≡ 0
-      unfolding refusal
-      met = cond-zero (eqb (byte L 0) 0x4E) _ 2 (sym (stepped noGrammar .number) ∙ z) .1
+      -- and refused
+      pub onsets-stop : (g : Grammar) → (r .number ≡ 0 → ⊥) → Stops g (r .number)
+      onsets-stop g f =
+          h .rest g ∙ rest-stop t at′ inside l is (inOnsets g timing p (h .last)) n′ (r .number) (stepped g .number) f
 
-      pub onsets-room : k < 512
-      onsets-room = let m = onset-passed timing p (h .last) L met .room in omega (arith, h .count)
+      -- or taken
+      module _ (z : r .number ≡ 0) where
+        met : onsetRefusal timing p (h .last) b ≡ 0
+        unfolding refusal
+        met = cond-zero (eqb (byte b 0) 0x4E) _ 2 (sym (stepped noGrammar .number) ∙ z) .1
 
-      onward : (g : Grammar) (ls : List (List ℕ))
-          → readLines (inOnsets g timing p (h .last)) n′ (b ∷ ls)
-          ≡ readLines (inOnsets g timing (withOnset p (onsetOf timing L)) (four L 1)) (n′ + 1) ls
-      unfolding after
-      onward g ls = read-on (inOnsets g timing p (h .last)) n′ b ls (sym (stepped g .number) ∙ z)
+        pub onsets-room : k < 512
+        onsets-room = let m = onset-passed timing p (h .last) b met .room in omega (arith, h .count)
 
-      pub onsets-more : (table′ : PlayingTable)
-          → table′ ≡ record {
-            bars = table .bars;
-            count = k + 1;
-            units = set (table .units) k (r .unit);
-            pitches = set (table .pitches) k (getD (l .bytes) 5 0);
-          }
-          → OnsetsSoFar t at n bars timing table′ (r .latest) (at′ + lineSize (drop at′ t)) (n′ + 1) (k + 1)
-      unfolding onsetOf withOnset
-      onsets-more table′ e =
-          let o = onsetOf timing L in
-          let pitch : getD (l .bytes) 5 0 ≡ o .pitch = ap (λ (x : Line). byte x 5) held-is ∙ byte-held b 5 (omega arith) in
-          let unit = stepped noGrammar .unit z in
-          record {
-            playing = withOnset p o;
-            last = four L 1;
-            good = good-onset timing p (h .last) L (h .good) met;
-            bars-are = h .bars-are;
-            count = ap (λ (x : ℕ). x + 1) (h .count) ∙ sym (length-append (p .onsets) (o ∷ []));
-            table-is = e ∙ onset-stored p table o k (r .unit) _ (h .table-is) (h .count) onsets-room (λ j. units (unit j)) pitch;
-            latest = stepped noGrammar .latest z;
-            within = line-within t at′ (omega arith);
-            line = let m = line-size-pos t at′ inside in omega (arith, h .line);
-            rest = λ g.
-                h .rest g
-                ∙ ap (readLines (inOnsets g timing p (h .last)) n′) (lines-at t at′ inside)
-                ∙ onward g _;
-          }
+        onward : (g : Grammar)
+            → readRest (inOnsets g timing p (h .last)) n′ (drop at′ t)
+            ≡ readRest (inOnsets g timing (withOnset p (onsetOf timing b)) (four b 1)) (n′ + 1) (drop (l .next) t)
+        unfolding after
+        onward g = rest-on t at′ inside l is (inOnsets g timing p (h .last)) n′ filled (sym (stepped g .number) ∙ z)
+
+        pub onsets-more : (pitch : ℕ) → ((c : List ℕ) → LineHeld l c → pitch ≡ byte c 5) → (table′ : PlayingTable)
+            → table′ ≡ record {
+              bars = table .bars;
+              count = k + 1;
+              units = set (table .units) k (r .unit);
+              pitches = set (table .pitches) k pitch;
+            }
+            → OnsetsSoFar t at n bars timing table′ (r .latest) (l .next) (n′ + 1) (k + 1)
+        unfolding onsetOf withOnset
+        onsets-more pitch pitch-is table′ e =
+            let o = onsetOf timing b in
+            let unit = stepped noGrammar .unit z in
+            let next = rest-next t at′ inside l is nothing 0 filled in
+            let m = line-size-pos t at′ inside in
+            record {
+              playing = withOnset p o;
+              last = four b 1;
+              good = good-onset timing p (h .last) b (h .good) met;
+              bars-are = h .bars-are;
+              count = ap (λ (x : ℕ). x + 1) (h .count) ∙ sym (length-append (p .onsets) (o ∷ []));
+              table-is =
+                  e ∙ onset-stored p table o k (r .unit) _ (h .table-is) (h .count) onsets-room (λ j. units (unit j))
+                  (pitch-is b line-held);
+              latest = stepped noGrammar .latest z;
+              within = le-trans (le-of-eq next) (line-within t at′ (omega arith));
+              line = omega (arith, h .line, next);
+              numbered = omega arith;
+              rest = λ g. h .rest g ∙ onward g;
+            }
 
   -- no line is left
   module _ (past : length t ≤ at′) (g : Grammar) where
-    ended : readLines (inOnsets g timing (noPlaying bars) 0) n (lines (drop at t)) ≡ readLines (inOnsets g timing p (h .last)) n′ []
-    ended = h .rest g ∙ ap (readLines (inOnsets g timing p (h .last)) n′) (lines-end t at′ past)
-
     -- before the first onset
-    pub onsets-missing : k ≡ 0 → readLines (inOnsets g timing (noPlaying bars) 0) n (lines (drop at t)) ≡ refused 3 n′
-    onsets-missing e = ended ∙ end-without g timing p (h .last) n′ (sym (h .count) ∙ e)
+    pub onsets-missing : k ≡ 0 → Stops g 3
+    onsets-missing e =
+        h .rest g
+        ∙ rest-end (inOnsets g timing p (h .last)) n′ t at′ 3 past (end-without g timing p (h .last) n′ (sym (h .count) ∙ e))
 
     -- after it
-    pub onsets-done : (k ≡ 0 → ⊥) → readLines (inOnsets g timing (noPlaying bars) 0) n (lines (drop at t)) ≡ accepted
+    pub onsets-done : (k ≡ 0 → ⊥) → readRest (inOnsets g timing (noPlaying bars) 0) n (drop at t) ≡ accepted
         (record { sheet = record { grammar = g; playing = p }; timing = timing })
-    onsets-done f = ended ∙ end-with g timing p (h .last) n′ (λ e. f (h .count ∙ e))
+    onsets-done f =
+        h .rest g ∙ rest-past (inOnsets g timing p (h .last)) n′ t at′ past
+        ∙ end-with g timing p (h .last) n′ (λ e. f (h .count ∙ e))
 
--- what is returned where a line is refused, or none is left
-pub take-refused : {o : Outcome TimedSheet} {g : Grammar} {number line : ℕ} (r : Take) → r .number ≡ number → r .line ≡ line
-    → (number ≡ 0 → ⊥) → o ≡ refused number line
-    → TakeRead o g r
-take-refused r n l f e =
+-- what is returned where a line is bad or refused, or none is left
+pub take-refused : {t : List ℕ} {o : Outcome TimedSheet} {g : Grammar} {number line at : ℕ} (r : Take)
+    → (r .number ≡ number) × (r .line ≡ line) × (r .at ≡ at) → (number ≡ 0 → ⊥) → line ≤ at + 1 → o ≡ stopped number line (drop at t)
+    → TakeRead t o g r
+take-refused {t} r q f place e =
     record {
-      stopped = λ _. e ∙ (λ j. refused (sym n j) (sym l j));
-      done = λ z. absurd (f (sym n ∙ z));
+      stop = λ _. e ∙ (λ j. stopped (sym (q .0) j) (sym (q .1) j) (drop (sym (q .2) j) t));
+      place = λ _. rw (q .1, q .2) place;
+      done = λ z. absurd (f (sym (q .0) ∙ z));
     }

@@ -10,20 +10,16 @@ use lib.ListN.{length}
 use lib.Dec.{eqb}
 use borrow.Author.Tests.{eq-eqb, ne-eqb}
 use Rattle.slices.specs.Every.{Every, every-weaken}
-use Rattle.sheet.specs.declared.line.Line.{Line}
 use Rattle.playing.specs.declared.onset.Latest.{Latest}
 use Rattle.playing.specs.declared.onset.OnsetStep.{OnsetStep}
 use Rattle.sheet.specs.Sheet.{Onset, Grammar, Playing, Timing, unitIn, barOf, inBar}
-use Rattle.sheet.specs.Reading.{first, byte, four, lineOf, onsetForm, momentRefusal, roomRefusal, onsetRefusal, onsetOf, withOnset}
-use Rattle.sheet.specs.Reading.{inOnsets}
-use Rattle.sheet.specs.Reading.{refusal}
-use Rattle.sheet.specs.Held.{held}
+use Rattle.sheet.specs.Reading.{first, byte, four, onsetForm, momentRefusal, roomRefusal, onsetRefusal, onsetOf, withOnset}
+use Rattle.sheet.specs.Reading.{inOnsets, refusal}
 use Rattle.sheet.specs.Clock.{div-mono, unit-mono}
 use Rattle.sheet.specs.Laws.{first-met, first-failed, moment-passed}
 use Rattle.playing.specs.Contracts.{latestOf, runIn, OnsetStepped}
 use Rattle.sheet.specs.SoFar.{GoodSoFar}
 use Rattle.sheet.specs.GoodLaws.{in-bar-more}
-use Rattle.sheet.specs.Buffer.{refusal-held, four-held, onset-of-held}
 
 -- no onset is in a bar behind all of theirs
 in-bar-none : (b : ℕ) (os : List Onset) → Every (λ (o : Onset). barOf (o .unit) < b) os → inBar b os ≡ 0
@@ -55,7 +51,7 @@ module _ (timing : Timing) (p : Playing) (last t : ℕ) (good : GoodSoFar timing
           simp (ne-eqb bar before e) (sym (in-bar-none bar (p .onsets) earlier))
 
 -- one onset more is one more in its bar
-pub run-more : (timing : Timing) (p : Playing) (l : Line)
+pub run-more : (timing : Timing) (p : Playing) (l : List ℕ)
     → inBar (barOf (unitIn timing (four l 1))) (withOnset p (onsetOf timing l) .onsets)
     ≡ inBar (barOf (unitIn timing (four l 1))) (p .onsets) + 1
 unfolding withOnset onsetOf
@@ -63,16 +59,16 @@ run-more timing p l =
     in-bar-more (barOf (unitIn timing (four l 1))) (p .onsets) (onsetOf timing l)
     ∙ simp (eq-eqb (barOf (unitIn timing (four l 1))) (barOf (unitIn timing (four l 1))) refl)
 
-module _ (g : Grammar) (timing : Timing) (p : Playing) (last : ℕ) (l : Line) where
+module _ (g : Grammar) (timing : Timing) (p : Playing) (last : ℕ) (l : List ℕ) where
   -- the refusal of a line of another kind
   pub other-line : (byte l 0 ≡ 0x4E → ⊥) → refusal (inOnsets g timing p last) l ≡ 3
   unfolding refusal
   other-line e = simp (ne-eqb (byte l 0) 0x4E e)
 
   -- a step that is refused
-  pub stopped : (r : OnsetStep) (k : ℕ) → r .number ≡ k → refusal (inOnsets g timing p last) l ≡ k → (k ≡ 0 → ⊥)
+  pub step-stopped : (r : OnsetStep) (k : ℕ) → r .number ≡ k → refusal (inOnsets g timing p last) l ≡ k → (k ≡ 0 → ⊥)
       → OnsetStepped g timing p last l r
-  stopped r k e q f = record { number = e ∙ sym q; unit = λ z. absurd (f (sym e ∙ z)); latest = λ z. absurd (f (sym e ∙ z)) }
+  step-stopped r k e q f = record { number = e ∙ sym q; unit = λ z. absurd (f (sym e ∙ z)); latest = λ z. absurd (f (sym e ∙ z)) }
 
   -- a `4E` line, whose form, moment and room are asked in this order
   module _ (kind : byte l 0 ≡ 0x4E) where
@@ -111,13 +107,3 @@ module _ (g : Grammar) (timing : Timing) (p : Playing) (last : ℕ) (l : Line) w
         eh
         ∙ (λ j. runIn (es j .bar) (es j .run) (barOf ((eu ∙ ap (unitIn timing) et) j)))
         ∙ run-is timing p last (four l 1) good up
-
--- a step on a line in the buffer is a step on the line
-pub stepped-held : (g : Grammar) (timing : Timing) (p : Playing) (last : ℕ) (b : List ℕ) (r : OnsetStep)
-    → OnsetStepped g timing p last (held b) r → OnsetStepped g timing p last (lineOf b) r
-stepped-held g timing p last b r h =
-    record {
-      number = h .number ∙ refusal-held b (inOnsets g timing p last);
-      unit = λ z. h .unit z ∙ ap (unitIn timing) (four-held b 1 (omega arith));
-      latest = λ z. h .latest z ∙ (λ j. latestOf timing (withOnset p (onset-of-held b timing j)) (four-held b 1 (omega arith) j));
-    }

@@ -1,16 +1,16 @@
 -- What the steps of reading a playing promise.
-use Prim.Native.Nat.{ℕ, _≤_}
+use Prim.Native.Nat.{ℕ, _+_, _≤_}
 use mathlib.Core.Path.{_≡_}
 use mathlib.Core.Bool.{cond}
 use mathlib.Core.List.{List}
 use lib.ListN.{length, drop}
 use lib.Dec.{eqb}
-use Rattle.hextext.specs.Text.{lines, lineBytes}
-use Rattle.sheet.specs.declared.line.Line.{Line}
+use Rattle.hextext.specs.declared.line.Line.{Line}
 use Rattle.sheet.specs.declared.table.TimingTable.{TimingTable}
 use Rattle.sheet.specs.Sheet.{Grammar, Playing, Timing, TimedSheet, unitIn, barOf, inBar}
-use Rattle.sheet.specs.Outcome.{Outcome, refused, accepted}
-use Rattle.sheet.specs.Reading.{byte, lineOf, inRules, inOnsets, refusal, readLines, withOnset, onsetOf, four}
+use Rattle.sheet.specs.Outcome.{Outcome, accepted}
+use Rattle.sheet.specs.Reading.{inRules, inOnsets, refusal, withOnset, onsetOf, four}
+use Rattle.sheet.specs.Rest.{readRest, stopped}
 use Rattle.sheet.specs.Held.{micros, timingTable, playingTable, noPlaying}
 use Rattle.sheet.specs.Good.{GoodRules}
 use Rattle.sheet.specs.SoFar.{GoodSoFar}
@@ -36,16 +36,16 @@ latestOf timing p last =
     }
 
 -- an onset line: its refusal; and where there is none its unit, and what the next onset is held against
-pub record OnsetStepped (g : Grammar) (timing : Timing) (p : Playing) (last : ℕ) (l : Line) (r : OnsetStep) : Type 0 where
-  pub number : r .number ≡ refusal (inOnsets g timing p last) l
-  pub unit : r .number ≡ 0 → r .unit .0 ≡ unitIn timing (four l 1)
-  pub latest : r .number ≡ 0 → r .latest ≡ latestOf timing (withOnset p (onsetOf timing l)) (four l 1)
+pub record OnsetStepped (g : Grammar) (timing : Timing) (p : Playing) (last : ℕ) (b : List ℕ) (r : OnsetStep) : Type 0 where
+  pub number : r .number ≡ refusal (inOnsets g timing p last) b
+  pub unit : r .number ≡ 0 → r .unit .0 ≡ unitIn timing (four b 1)
+  pub latest : r .number ≡ 0 → r .latest ≡ latestOf timing (withOnset p (onsetOf timing b)) (four b 1)
 
 -- the same of any good playing whose numbers are those handed over
-abbrev pub OnsetStepOf : (bars : ℕ) → Timing → (count : ℕ) → Latest → Line → OnsetStep → Type 0
-OnsetStepOf bars timing count s l r =
+abbrev pub OnsetStepOf : (bars : ℕ) → Timing → (count : ℕ) → Latest → List ℕ → OnsetStep → Type 0
+OnsetStepOf bars timing count s b r =
     (g : Grammar) (p : Playing) (last : ℕ) → GoodSoFar timing p last → bars ≡ p .bars → count ≡ length (p .onsets)
-    → s ≡ latestOf timing p last → OnsetStepped g timing p last l r
+    → s ≡ latestOf timing p last → OnsetStepped g timing p last b r
 
 -- a playing and its timing as they were read behind the grammar g: what the text comes to
 pub record TakeDone (o : Outcome TimedSheet) (g : Grammar) (r : Take) : Type 0 where
@@ -55,16 +55,17 @@ pub record TakeDone (o : Outcome TimedSheet) (g : Grammar) (r : Take) : Type 0 w
   pub timing-table : r .timing ≡ timingTable timing
   pub sheet : o ≡ accepted (record { sheet = record { grammar = g; playing = playing }; timing = timing })
 
-pub record TakeRead (o : Outcome TimedSheet) (g : Grammar) (r : Take) : Type 0 where
-  pub stopped : (r .number ≡ 0 → ⊥) → o ≡ refused (r .number) (r .line)
+-- behind the place where the text t has been read to, with the outcome o
+pub record TakeRead (t : List ℕ) (o : Outcome TimedSheet) (g : Grammar) (r : Take) : Type 0 where
+  pub stop : (r .number ≡ 0 → ⊥) → o ≡ stopped (r .number) (r .line) (drop (r .at) t)
+  pub place : (r .number ≡ 0 → ⊥) → r .line ≤ r .at + 1
   pub done : r .number ≡ 0 → TakeDone o g r
 
 -- reading the onsets from line n, at place `at`, on, behind a `45` line
 abbrev pub OnsetsRead : (t : List ℕ) (at n : ℕ) → Grammar → (bars : ℕ) → Timing → Take → Type 0
-OnsetsRead t at n g bars timing r = TakeRead (readLines (inOnsets g timing (noPlaying bars) 0) n (lines (drop at t))) g r
+OnsetsRead t at n g bars timing r = TakeRead t (readRest (inOnsets g timing (noPlaying bars) 0) n (drop at t)) g r
 
--- reading the playing from line n, at place `at`, on, which is a `45` line behind a grammar with a rule
-abbrev pub PlayingRead : (t : List ℕ) (at n : ℕ) → Grammar → Take → Type 0
-PlayingRead t at n g r =
-    GoodRules g → 1 ≤ length (g .rules) → byte (lineOf (lineBytes (drop at t))) 0 ≡ 0x45
-    → TakeRead (readLines (inRules g) n (lines (drop at t))) g r
+-- reading the playing from line n, at place `at`, on, which is the `45` line l behind a grammar with a rule
+abbrev pub PlayingRead : (t : List ℕ) (at n : ℕ) → Line → Grammar → Take → Type 0
+PlayingRead t at n l g r =
+    GoodRules g → 1 ≤ length (g .rules) → l .kind ≡ 0x45 → TakeRead t (readRest (inRules g) n (drop at t)) g r

@@ -1,15 +1,18 @@
 // One `4E` line: its refusal, or the onset that it adds.
 ghost use mathlib.Core.Path.{_≡_};
-ghost use Prim.Native.Nat.{_≤_};
+ghost use mathlib.Core.List.{List};
+ghost use Prim.Native.Nat.{ℕ, _≤_};
 ghost use Rattle.sheet.specs.Reading.{onsetForm, momentRefusal, roomRefusal};
+ghost use Rattle.sheet.specs.Held.{LineHeld};
 ghost use Rattle.playing.specs.Contracts.{timingIn, runIn, OnsetStepOf};
+use hextext::Line;
 use sheet::BAR_ONSETS_MOST;
 use sheet::BAR_UNITS;
-use sheet::Line;
 use sheet::Micros;
 use sheet::ONSETS_MOST;
 use sheet::TimingTable;
 use sheet::Units;
+use sheet::byte_at;
 use sheet::four_at;
 use sheet::unit_of;
 
@@ -29,13 +32,13 @@ pub struct OnsetStep {
 
 // The refusal of a `4E` line by its form; 0: none.
 fn form_refusal(l: Line) -> u8
-    ensures { λ r. ⌜ r ≡ onsetForm l ⌝ }
+    ensures { λ r. ⌜ ((b : List ℕ) → LineHeld l b → r ≡ onsetForm b) ⌝ }
 {
     if l.count != 7 {
         return 4;
     }
-    let pitch = l.bytes[5];
-    let velocity = l.bytes[6];
+    let pitch = byte_at(l, 5);
+    let velocity = byte_at(l, 6);
     if 127 < pitch {
         return 5; // pitch
     }
@@ -98,9 +101,9 @@ fn refused_step(number: u8, latest: Latest) -> OnsetStep
 // A line after the `45` line and `count` onsets.
 pub fn onset_step(bars: u8, timing: TimingTable, count: usize, latest: Latest, l: Line) -> OnsetStep
     requires { ⌜ bars ≤ 64 ⌝ }
-    ensures { λ r. ⌜ OnsetStepOf bars (timingIn timing) count latest l r ⌝ }
+    ensures { λ r. ⌜ ((b : List ℕ) → LineHeld l b → OnsetStepOf bars (timingIn timing) count latest b r) ⌝ }
 {
-    if l.bytes[0] != 0x4E {
+    if l.kind != 0x4E {
         return refused_step(3, latest);
     }
     let form = form_refusal(l);

@@ -1,62 +1,64 @@
 -- The first line of a text: the `47` line, or a refusal. Assumes nothing.
-use Prim.Native.Nat.{ℕ, _+_, _<_}
-use mathlib.Core.Path.{_≡_, sym, ap, subst, _∙_}
-use mathlib.Core.List.{List}
+use Prim.Native.Nat.{ℕ, _<_}
+use mathlib.Core.Path.{_≡_, refl, sym, _∙_}
+use mathlib.Core.List.{List, [], _∷_}
 use native.Mathlib.Omega.{arith}
 use lib.ListN.{length, drop}
 use borrow.Author.Tests.{eq-eqb, ne-eqb}
-use Rattle.hextext.specs.Text.{lines, lineBytes, lineSize}
-use Rattle.hextext.specs.Laws.{lines-at, byte-small}
-use Rattle.sheet.specs.declared.line.Line.{Line}
+use Rattle.hextext.specs.declared.line.Line.{Line}
+use Rattle.hextext.specs.Text.{badLine, lineBytes}
+use Rattle.hextext.specs.Packed.{lineRead}
+use Rattle.sheet.specs.Reading.{byte, headRefusal, headOf, nothing, inRules, refusal, after, readSheet}
 use Rattle.sheet.specs.Outcome.{refused}
-use Rattle.sheet.specs.Reading.{byte, lineOf, headRefusal, headOf, nothing, inRules, refusal, after, readLines}
-use Rattle.sheet.specs.Held.{held}
+use Rattle.sheet.specs.Laws.{ill-formed}
+use Rattle.sheet.specs.Rest.{readRest, stopped, rest-bad, rest-stop, rest-held, rest-on}
+use Rattle.sheet.specs.Held.{LineHeld}
 use Rattle.sheet.specs.Good.{GoodRules}
-use Rattle.sheet.specs.SoFar.{GoodProgress}
-use Rattle.sheet.specs.Laws.{read-on, read-stop}
-use Rattle.sheet.specs.GoodLaws.{Small, good-after}
-use Rattle.sheet.specs.Buffer.{refusal-held, after-held}
+use Rattle.sheet.specs.GoodLaws.{line-small, good-after}
 
-module _ (t : List ℕ) (some : 0 < length t) (l : Line) (held-is : l ≡ held (lineBytes (drop 0 t))) where
+module _ (t : List ℕ) (some : 0 < length t) (l : Line) (is : l ≡ lineRead t 0) where
   abbrev b : List ℕ
   b = lineBytes (drop 0 t)
 
-  refusal-is : refusal nothing l ≡ refusal nothing (lineOf b)
-  refusal-is = ap (refusal nothing) held-is ∙ refusal-held b nothing
+  -- a bad one
+  pub first-bad : l .count ≡ 0 → (k : ℕ) → readRest nothing 1 t ≡ stopped k 1 t
+  first-bad e k = rest-bad t 0 some l is nothing 1 (omega arith) e k
 
-  stop : (k : ℕ) → k ≡ refusal nothing l → (k ≡ 0 → ⊥) → readLines nothing 1 (lines t) ≡ refused k 1
-  stop k e f = ap (readLines nothing 1) (lines-at t 0 some) ∙ read-stop nothing 1 b _ k (e ∙ refusal-is) f
+  module _ (filled : l .count ≡ 0 → ⊥) where
+    pub first-held : LineHeld l b
+    first-held = rest-held t 0 some l is nothing 1 filled
 
-  -- of another kind
-  pub first-other : (byte l 0 ≡ 0x47 → ⊥) → readLines nothing 1 (lines t) ≡ refused 3 1
-  unfolding refusal
-  first-other e = stop 3 (simp (ne-eqb (byte l 0) 0x47 e)) (λ z. omega arith)
-
-  -- a `47` line that is refused
-  pub first-refused : byte l 0 ≡ 0x47 → (k : ℕ) → k ≡ headRefusal l → (k ≡ 0 → ⊥) → readLines nothing 1 (lines t) ≡ refused k 1
-  unfolding refusal
-  first-refused e k q f = stop k (simp (eq-eqb (byte l 0) 0x47 e) q) f
-
-  -- one that is not
-  module _ (kind : byte l 0 ≡ 0x47) (met : headRefusal l ≡ 0) where
-    met-line : refusal nothing (lineOf b) ≡ 0
+    -- of another kind
+    pub first-other : (l .kind ≡ 0x47 → ⊥) → readRest nothing 1 t ≡ stopped 3 1 t
     unfolding refusal
-    met-line = sym refusal-is ∙ simp (eq-eqb (byte l 0) 0x47 kind) met
+    first-other e =
+        rest-stop t 0 some l is nothing 1 3 (simp (ne-eqb (byte b 0) 0x47 (λ z. e (first-held .kind ∙ z)))) (λ z. omega arith)
 
-    after-is : after nothing (lineOf b) ≡ inRules (headOf l)
-    unfolding after
-    after-is = sym (ap (after nothing) held-is ∙ after-held b nothing met-line)
+    -- a `47` line
+    module _ (kind : l .kind ≡ 0x47) where
+      refusal-is : refusal nothing b ≡ headRefusal b
+      unfolding refusal
+      refusal-is = simp (eq-eqb (byte b 0) 0x47 (sym (first-held .kind) ∙ kind))
 
-    small : Small (lineOf b)
-    unfolding lineOf
-    small i = byte-small (drop 0 t) i
+      -- that is refused
+      pub first-refused : (k : ℕ) → k ≡ headRefusal b → (k ≡ 0 → ⊥) → readRest nothing 1 t ≡ stopped k 1 t
+      first-refused k e f = rest-stop t 0 some l is nothing 1 k (e ∙ sym refusal-is) f
 
-    pub first-good : GoodRules (headOf l)
-    first-good = subst GoodProgress after-is (good-after nothing (lineOf b) small tt met-line)
+      -- that is not
+      module _ (met : headRefusal b ≡ 0) where
+        met-line : refusal nothing b ≡ 0
+        met-line = refusal-is ∙ met
 
-    pub first-on : (next : ℕ) → next ≡ 0 + lineSize (drop 0 t)
-        → readLines nothing 1 (lines t) ≡ readLines (inRules (headOf l)) 2 (lines (drop next t))
-    first-on next e =
-        ap (readLines nothing 1) (lines-at t 0 some)
-        ∙ read-on nothing 1 b _ met-line
-        ∙ (λ j. readLines (after-is j) 2 (lines (drop (sym e j) t)))
+        pub first-good : GoodRules (headOf b)
+        unfolding after
+        first-good = good-after nothing b (line-small b (first-held .small)) tt met-line
+
+        pub first-on : readRest nothing 1 t ≡ readRest (inRules (headOf b)) 2 (drop (l .next) t)
+        unfolding after
+        first-on = rest-on t 0 some l is nothing 1 filled met-line
+
+-- an empty text is bad at line 1
+pub empty-bad : (t : List ℕ) → length t ≡ 0 → readSheet t ≡ refused 2 1
+unfolding badLine
+empty-bad [] e = ill-formed [] (omega arith) 1 refl (λ z. omega arith)
+empty-bad (b ∷ t) e = let f : ⊥ = omega arith in absurd f

@@ -1,22 +1,26 @@
 // Reading a sheet: a text is refused, by document 01's numbers 1 to 8, or means a grammar and a playing in units.
 ghost use mathlib.Core.Path.{_≡_};
-ghost use Prim.Native.Nat.{_<_};
-ghost use lib.ListN.{length};
-ghost use Rattle.hextext.specs.Text.{lines};
+ghost use Prim.Native.Nat.{_+_, _<_, _≤_};
+ghost use lib.ListN.{length, drop};
+ghost use Rattle.hextext.specs.Packed.{DigitTable};
 ghost use Rattle.sheet.specs.Outcome.{refused};
-ghost use Rattle.sheet.specs.Reading.{readLines, nothing};
+ghost use Rattle.sheet.specs.Reading.{nothing};
+ghost use Rattle.sheet.specs.Rest.{readRest, stopped};
 ghost use Rattle.sheet.specs.Held.{readingOf, Reads};
 use grammar::head_of;
 use grammar::head_refusal;
 use grammar::no_grammar;
 use grammar::read_rules;
+use hextext::Digits;
+use hextext::bad_from;
+use hextext::digit_table;
+use hextext::line_at;
 use playing::no_onsets;
 use playing::read_playing;
 use sheet::Micros;
 use sheet::Reading;
 use sheet::TEXT_MOST;
 use sheet::TimingTable;
-use sheet::line_at;
 
 fn refused_at(number: u8, line: usize) -> Reading
     ensures { λ r. ⌜ r ≡ readingOf (refused number line) ⌝ }
@@ -34,29 +38,43 @@ fn refused_at(number: u8, line: usize) -> Reading
     }
 }
 
-// The lines of a text with no bad line, one after another.
-fn read_lines(text: &[u8]) -> Reading
-    requires { ⌜ 0 < length (now text) ⌝ }
-    ensures { λ r. ⌜ r ≡ readingOf (readLines nothing 1 (lines (now (text .entry)))) ⌝ }
+// A refusal at line `line`, which starts at place `at`: a bad line there or behind it goes before.
+fn stopped_at(digits: &Digits, text: &[u8], at: usize, line: usize, number: u8) -> Reading
+    requires { ⌜ DigitTable (now digits) × (line ≤ at + 1) ⌝ }
+    ensures { λ r. ⌜ r ≡ readingOf (stopped number line (drop at (now (text .entry)))) ⌝ }
 {
-    let first = line_at(text, 0);
-    let head = first.line;
-    if head.bytes[0] != 0x47 {
-        return refused_at(3, 1);
+    let bad = bad_from(digits, text, at, line);
+    if bad != 0 {
+        return refused_at(2, bad);
+    }
+    refused_at(number, line)
+}
+
+// The lines of a text, one after another.
+fn read_lines(digits: &Digits, text: &[u8]) -> Reading
+    requires { ⌜ DigitTable (now digits) × (0 < length (now text)) ⌝ }
+    ensures { λ r. ⌜ r ≡ readingOf (readRest nothing 1 (now (text .entry))) ⌝ }
+{
+    let head = line_at(digits, text, 0);
+    if head.count == 0 {
+        return stopped_at(digits, text, 0, 1, 2);
+    }
+    if head.kind != 0x47 {
+        return stopped_at(digits, text, 0, 1, 3);
     }
     let number = head_refusal(head);
     if number != 0 {
-        return refused_at(number, 1);
+        return stopped_at(digits, text, 0, 1, number);
     }
-    let rules = read_rules(text, first.next, 2, head_of(head));
+    let rules = read_rules(digits, text, head.next, 2, head_of(head));
     let stop = rules.number;
     if stop != 0 {
-        return refused_at(stop, rules.line);
+        return stopped_at(digits, text, rules.at, rules.line, stop);
     }
-    let take = read_playing(text, rules.next, rules.line);
+    let take = read_playing(digits, text, rules.at, rules.line, rules.last);
     let last = take.number;
     if last != 0 {
-        return refused_at(last, take.line);
+        return stopped_at(digits, text, take.at, take.line, last);
     }
     let grammar = rules.grammar;
     let timing = take.timing;
@@ -77,9 +95,9 @@ pub fn read(text: &[u8]) -> Reading
     if TEXT_MOST < text.len() {
         return refused_at(1, 0);
     }
-    let bad = hextext::bad_line(text);
-    if bad != 0 {
-        return refused_at(2, bad);
+    if text.len() == 0 {
+        return refused_at(2, 1);
     }
-    read_lines(text)
+    let digits = digit_table();
+    read_lines(&digits, text)
 }

@@ -12,7 +12,7 @@ use Rattle.hextext.specs.Text.{badLine, lines}
 use Rattle.hextext.specs.Laws.{bad-line-most, lines-most}
 use Rattle.sheet.specs.Sheet.{TimedSheet}
 use Rattle.sheet.specs.Outcome.{Outcome, refused, accepted}
-use Rattle.sheet.specs.Reading.{lineOf, Progress, nothing, inRules, inOnsets, refusal, after, atEnd}
+use Rattle.sheet.specs.Reading.{Progress, nothing, inRules, inOnsets, refusal, after, atEnd}
 use Rattle.sheet.specs.Reading.{readLines, readSheet}
 use Rattle.sheet.specs.Laws.{read-on, read-stop, too-long, ill-formed, well-formed}
 
@@ -39,11 +39,11 @@ end-within (inOnsets g timing p last) n = go (ltb 0 (length (p .onsets)))
 lines-within : (r : Progress) (n : ℕ) (ls : List (List ℕ)) → Within (n + length ls) (readLines r n ls)
 unfolding readLines
 lines-within r n [] = within-weaken n (n + 0) (omega arith) (atEnd r n) (end-within r n)
-lines-within r n (b ∷ ls) = go (refusal r (lineOf b)) refl (lines-within (after r (lineOf b)) (n + 1) ls)
+lines-within r n (b ∷ ls) = go (refusal r b) refl (lines-within (after r b) (n + 1) ls)
   where
-    go : (k : ℕ) → refusal r (lineOf b) ≡ k → Within (n + 1 + length ls) (readLines (after r (lineOf b)) (n + 1) ls)
+    go : (k : ℕ) → refusal r b ≡ k → Within (n + 1 + length ls) (readLines (after r b) (n + 1) ls)
         → Within (n + suc (length ls)) (readLines r n (b ∷ ls))
-    go zero e h = rw (read-on r n b ls e) (within-weaken _ _ (omega arith) (readLines (after r (lineOf b)) (n + 1) ls) h)
+    go zero e h = rw (read-on r n b ls e) (within-weaken _ _ (omega arith) (readLines (after r b) (n + 1) ls) h)
     go (suc k) e h = rw (read-stop r n b ls (suc k) (sym e) (λ x. omega arith)) (omega arith, omega arith)
 
 -- a refusal has a number, and its line fits two bytes

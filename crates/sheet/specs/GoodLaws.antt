@@ -13,10 +13,9 @@ use borrow.Author.Tests.{eq-eqb, ne-eqb, ltb-true}
 use Rattle.slices.specs.Every.{Every, every-more, every-at, every-weaken}
 use Rattle.hextext.specs.Text.{lines, badLine}
 use Rattle.hextext.specs.Laws.{lines-small}
-use Rattle.sheet.specs.declared.line.Line.{Line}
 use Rattle.sheet.specs.Sheet.{Rule, Onset, Grammar, Playing, Timing, TimedSheet, unitIn, barOf, inBar, barUnits}
 use Rattle.sheet.specs.Outcome.{Outcome, refused, accepted}
-use Rattle.sheet.specs.Reading.{byte, two, four, allBelow, bytesFrom, lineOf, headRefusal, headOf, divisionRefusal, divisionOf}
+use Rattle.sheet.specs.Reading.{byte, two, four, allBelow, bytesFrom, headRefusal, headOf, divisionRefusal, divisionOf}
 use Rattle.sheet.specs.Reading.{leafRefusal, leafOf, ruleRefusal, ruleOf, withRule, playingRefusal, playingOf, timingOf}
 use Rattle.sheet.specs.Reading.{onsetRefusal, onsetOf, withOnset, Progress, nothing, inRules, inOnsets, rulesRefusal, refusal, after}
 use Rattle.sheet.specs.Reading.{demand, atEnd, readLines, readSheet}
@@ -27,15 +26,14 @@ use Rattle.sheet.specs.Laws.{length-bytes, demand-zero, cond-zero, head-
 use Rattle.sheet.specs.Laws.{onset-passed, read-on, read-stop, too-long, ill-formed, well-formed}
 
 -- the bytes of a line are below 256, and a number of two bytes is below 65,536
-abbrev pub Small : Line → Type 0
+abbrev pub Small : List ℕ → Type 0
 Small l = (i : ℕ) → byte l i < 256
 
-two-small : (l : Line) (i : ℕ) → Small l → two l i ≤ 65535
+two-small : (l : List ℕ) (i : ℕ) → Small l → two l i ≤ 65535
 unfolding two
 two-small l i h = omega (arith, h i, h (i + 1))
 
-pub line-small : (b : List ℕ) → Every (λ (x : ℕ). x < 256) b → Small (lineOf b)
-unfolding lineOf
+pub line-small : (b : List ℕ) → Every (λ (x : ℕ). x < 256) b → Small b
 line-small b h i = every-at (λ (x : ℕ). x < 256) b i 0 h (omega arith)
 
 -- the test that all are below q, as a property
@@ -49,7 +47,7 @@ every-below q (x ∷ xs) e = go (ltb x q) refl e (every-below q xs)
     go true h f rest = (ltb-true x q h, rest f)
     go false h f rest = absurd (false≢true f)
 
-good-head : (l : Line) → Small l → headRefusal l ≡ 0 → GoodRules (headOf l)
+good-head : (l : List ℕ) → Small l → headRefusal l ≡ 0 → GoodRules (headOf l)
 unfolding headOf
 good-head l h e =
     let p = head-passed l e in
@@ -74,7 +72,7 @@ good-with-rule g r h k room =
       rules = every-more (GoodRule (g .nonterminals)) (g .rules) r (h .rules) k;
     }
 
-good-division : (q n : ℕ) (l : Line) → Small l → divisionRefusal q n l ≡ 0 → GoodRule q (divisionOf l)
+good-division : (q n : ℕ) (l : List ℕ) → Small l → divisionRefusal q n l ≡ 0 → GoodRule q (divisionOf l)
 unfolding divisionOf
 good-division q n l h e =
     let p = division-passed q n l e in
@@ -87,11 +85,11 @@ good-division q n l h e =
       parts = every-below q (bytesFrom (byte l 4) 5 l) (p .parts);
     }
 
-good-leaf : (q n : ℕ) (l : Line) → Small l → leafRefusal q n l ≡ 0 → GoodRule q (leafOf l)
+good-leaf : (q n : ℕ) (l : List ℕ) → Small l → leafRefusal q n l ≡ 0 → GoodRule q (leafOf l)
 unfolding leafOf
 good-leaf q n l h e = let p = leaf-passed q n l e in record { head = p .head; weight = two-small l 2 h; kind = p .kind }
 
-pub good-start : (l : Line) → playingRefusal l ≡ 0 → GoodSoFar (timingOf l) (playingOf l) 0
+pub good-start : (l : List ℕ) → playingRefusal l ≡ 0 → GoodSoFar (timingOf l) (playingOf l) 0
 unfolding playingOf timingOf inBar
 good-start l e =
     let p = playing-passed l e in
@@ -122,7 +120,7 @@ rising-more : (m : ℕ) (os : List Onset) (o : Onset) → Rising m os → m ≤ 
 rising-more m [] o r h e = (h, tt)
 rising-more m (x ∷ os) o r h e = (r .0, rising-more (x .unit) os o (r .1) (e .0) (e .1))
 
-module _ (timing : Timing) (p : Playing) (last : ℕ) (l : Line) (h : GoodSoFar timing p last) where
+module _ (timing : Timing) (p : Playing) (last : ℕ) (l : List ℕ) (h : GoodSoFar timing p last) where
   abbrev u : ℕ
   u = unitIn timing (four l 1)
 
@@ -162,7 +160,7 @@ module _ (timing : Timing) (p : Playing) (last : ℕ) (l : Line) (h : GoodSoFar 
       }
 
 -- a line after the `47` line, by its kind
-module _ (g : Grammar) (l : Line) (h : Small l) (k : GoodRules g) where
+module _ (g : Grammar) (l : List ℕ) (h : Small l) (k : GoodRules g) where
   abbrev q : ℕ
   q = g .nonterminals
 
@@ -187,7 +185,7 @@ module _ (g : Grammar) (l : Line) (h : Small l) (k : GoodRules g) where
   good-rules-line false z = good-rule-line z
 
 -- a line that is not refused keeps what has been read good
-pub good-after : (r : Progress) (l : Line) → Small l → GoodProgress r → refusal r l ≡ 0 → GoodProgress (after r l)
+pub good-after : (r : Progress) (l : List ℕ) → Small l → GoodProgress r → refusal r l ≡ 0 → GoodProgress (after r l)
 unfolding refusal rulesRefusal after
 good-after nothing l h g e = good-head l h (cond-zero (eqb (byte l 0) 0x47) (headRefusal l) 2 e .1)
 good-after (inRules g) l h k e = good-rules-line g l h k (eqb (byte l 0) 0x45) e
@@ -225,12 +223,12 @@ good-lines : (r : Progress) (n : ℕ) (ls : List (List ℕ)) → Every (Every (�
     → Accepted (readLines r n ls)
 unfolding readLines
 good-lines r n [] s h = good-end r n h
-good-lines r n (b ∷ ls) s h = go (refusal r (lineOf b)) refl (λ g. good-lines (after r (lineOf b)) (n + 1) ls (s .1) g)
+good-lines r n (b ∷ ls) s h = go (refusal r b) refl (λ g. good-lines (after r b) (n + 1) ls (s .1) g)
   where
-    go : (k : ℕ) → refusal r (lineOf b) ≡ k
-        → (GoodProgress (after r (lineOf b)) → Accepted (readLines (after r (lineOf b)) (n + 1) ls)) → Accepted (readLines r n (b ∷ ls))
+    go : (k : ℕ) → refusal r b ≡ k
+        → (GoodProgress (after r b) → Accepted (readLines (after r b) (n + 1) ls)) → Accepted (readLines r n (b ∷ ls))
     go zero q next =
-        subst Accepted (sym (read-on r n b ls q)) (next (good-after r (lineOf b) (line-small b (s .0)) h q))
+        subst Accepted (sym (read-on r n b ls q)) (next (good-after r b (line-small b (s .0)) h q))
     go (suc k) q next = subst Accepted (sym (read-stop r n b ls (suc k) (sym q) (λ x. omega arith))) tt
 
 -- whatever a text comes to

@@ -13,11 +13,10 @@ use Rattle.hextext.specs.Text.{first, badFrom, badLine, lines}
 use Rattle.hextext.specs.Written.{pairsOf, lineText}
 use Rattle.hextext.specs.WrittenLaws.{read-back}
 use Rattle.hextext.specs.Formed.{line-formed}
-use Rattle.sheet.specs.declared.line.Line.{Line}
 use Rattle.sheet.specs.Sheet.{TimedSheet}
 use Rattle.sheet.specs.Multiplier.{grammarWith, withMultiplier}
 use Rattle.sheet.specs.Outcome.{Outcome, refused, accepted, andThen}
-use Rattle.sheet.specs.Reading.{byte, two, lineOf, headRefusal, headOf, ruleOf, withRule, playingOf, timingOf, Progress, nothing}
+use Rattle.sheet.specs.Reading.{byte, two, headRefusal, headOf, ruleOf, withRule, playingOf, timingOf, Progress, nothing}
 use Rattle.sheet.specs.Reading.{inRules, inOnsets, refusal, after, atEnd, readLines, readSheet}
 use Rattle.sheet.specs.Laws.{read-on, read-stop, too-long, ill-formed, well-formed}
 
@@ -37,13 +36,13 @@ module _ (a : ℕ) where
   Begun (inRules g) = Unit {0}
   Begun (inOnsets g timing p last) = Unit {0}
 
-  same-refusal : (r : Progress) (l : Line) → refusal (progressWith r) l ≡ refusal r l
+  same-refusal : (r : Progress) (l : List ℕ) → refusal (progressWith r) l ≡ refusal r l
   unfolding refusal
   same-refusal nothing l = refl
   same-refusal (inRules g) l = refl
   same-refusal (inOnsets g timing p last) l = refl
 
-  same-after : (r : Progress) (l : Line) → Begun r → (after (progressWith r) l ≡ progressWith (after r l)) × Begun (after r l)
+  same-after : (r : Progress) (l : List ℕ) → Begun r → (after (progressWith r) l ≡ progressWith (after r l)) × Begun (after r l)
   unfolding after withRule
   same-after nothing l b = absurd b
   same-after (inRules g) l b = go (eqb (byte l 0) 0x45)
@@ -73,17 +72,17 @@ module _ (a : ℕ) where
   unfolding readLines
   same-lines r n [] b = same-end r n
   same-lines r n (l ∷ ls) b =
-      go (refusal r (lineOf l)) refl (same-lines (after r (lineOf l)) (n + 1) ls (same-after r (lineOf l) b .1))
+      go (refusal r l) refl (same-lines (after r l) (n + 1) ls (same-after r l b .1))
     where
-      go : (k : ℕ) → refusal r (lineOf l) ≡ k
-          → readLines (progressWith (after r (lineOf l))) (n + 1) ls ≡ meaningWith a (readLines (after r (lineOf l)) (n + 1) ls)
+      go : (k : ℕ) → refusal r l ≡ k
+          → readLines (progressWith (after r l)) (n + 1) ls ≡ meaningWith a (readLines (after r l) (n + 1) ls)
           → readLines (progressWith r) n (l ∷ ls) ≡ meaningWith a (readLines r n (l ∷ ls))
       go zero e rest =
-          read-on (progressWith r) n l ls (same-refusal r (lineOf l) ∙ e)
-          ∙ ap (λ (x : Progress). readLines x (n + 1) ls) (same-after r (lineOf l) b .0)
+          read-on (progressWith r) n l ls (same-refusal r l ∙ e)
+          ∙ ap (λ (x : Progress). readLines x (n + 1) ls) (same-after r l b .0)
           ∙ rest ∙ ap (meaningWith a) (sym (read-on r n l ls e))
       go (suc k) e rest =
-          read-stop (progressWith r) n l ls (suc k) (sym (same-refusal r (lineOf l) ∙ e)) (λ x. omega arith)
+          read-stop (progressWith r) n l ls (suc k) (sym (same-refusal r l ∙ e)) (λ x. omega arith)
           ∙ ap (meaningWith a) (sym (read-stop r n l ls (suc k) (sym e) (λ x. omega arith)))
 
 -- ---- texts whose first line has five bytes
@@ -129,14 +128,14 @@ module _ (c : Around) where
     -- the head's refusal does not look at a, and what has been read behind it is the same but for a
     pub same-head : (ls : List (List ℕ))
         → readLines nothing 1 (head x′ y′ ∷ ls) ≡ meaningWith a (readLines nothing 1 (head x y ∷ ls))
-    unfolding refusal headRefusal after headOf lineOf two
-    same-head ls = go (refusal nothing (lineOf (head x y))) refl
+    unfolding refusal headRefusal after headOf two
+    same-head ls = go (refusal nothing (head x y)) refl
       where
-        go : (r : ℕ) → refusal nothing (lineOf (head x y)) ≡ r
+        go : (r : ℕ) → refusal nothing (head x y) ≡ r
             → readLines nothing 1 (head x′ y′ ∷ ls) ≡ meaningWith a (readLines nothing 1 (head x y ∷ ls))
         go zero e =
             read-on nothing 1 (head x′ y′) ls e
-            ∙ same-lines a (after nothing (lineOf (head x y))) 2 ls tt
+            ∙ same-lines a (after nothing (head x y)) 2 ls tt
             ∙ ap (meaningWith a) (sym (read-on nothing 1 (head x y) ls e))
         go (suc r) e =
             read-stop nothing 1 (head x′ y′) ls (suc r) (sym e) (λ z. omega arith)

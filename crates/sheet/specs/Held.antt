@@ -1,15 +1,15 @@
 -- A sheet as the code holds it: each list stands in an array from the front, with zeros in the places that are left. So a struct is a
 -- function of what it means, and a refusal's struct is one of zeros.
-use Prim.Native.Nat.{ℕ, _+_}
+use Prim.Native.Nat.{ℕ, _<_}
 use mathlib.Core.Path.{_≡_}
 use mathlib.Core.List.{List, [], _∷_, _++_, map}
-use lib.ListN.{length, drop}
+use lib.ListN.{length}
+use Rattle.slices.specs.Every.{Every}
 use Rattle.slices.specs.Pad.{pad}
-use Rattle.hextext.specs.Text.{lineBytes, lineSize}
+use Rattle.hextext.specs.declared.line.Line.{Line}
+use Rattle.hextext.specs.Packed.{frontOf, tailOf}
 use Rattle.sheet.specs.declared.clock.Micros.{Micros}
 use Rattle.sheet.specs.declared.clock.Units.{Units}
-use Rattle.sheet.specs.declared.line.Line.{Line}
-use Rattle.sheet.specs.declared.line.Taken.{Taken}
 use Rattle.sheet.specs.declared.table.Rule.the-variants.{Division, Leaf}
 use Rattle.sheet.specs.declared.table.RuleCell.{RuleCell}
 use Rattle.sheet.specs.declared.table.GrammarTable.{GrammarTable}
@@ -18,7 +18,7 @@ use Rattle.sheet.specs.declared.table.TimingTable.{TimingTable}
 use Rattle.sheet.specs.declared.table.Reading.{Reading}
 use Rattle.sheet.specs.Sheet.{Rule, division, leaf, Onset, Grammar, Playing, Timing, TimedSheet}
 use Rattle.sheet.specs.Outcome.{Outcome, numberIn, lineIn, valueIn}
-use Rattle.sheet.specs.Reading.{readSheet}
+use Rattle.sheet.specs.Reading.{byte, readSheet}
 
 abbrev pub micros : ℕ → Micros
 micros t = record { 0 = t }
@@ -26,14 +26,13 @@ micros t = record { 0 = t }
 abbrev pub units : ℕ → Units
 units u = record { 0 = u }
 
--- a line in the sheet's buffer of 16 bytes; no kind of line has more than 13
-unfoldable pub held : List ℕ → Line
-held l = record { count = length l; bytes = pad 16 0 l }
-
--- what stands at `at` in a text: its next line, and the place behind it
-pub record LineTaken (text : List ℕ) (at : ℕ) (r : Taken) : Type 0 where
-  pub line : r .line ≡ held (lineBytes (drop at text))
-  pub next : r .next ≡ at + lineSize (drop at text)
+-- a line of these bytes as it is held: its kind, its count, its first eight bytes and its last eight
+pub record LineHeld (l : Line) (b : List ℕ) : Type 0 where
+  pub kind : l .kind ≡ byte b 0
+  pub count : l .count ≡ length b
+  pub front : l .front ≡ frontOf b
+  pub tail : l .tail ≡ tailOf b
+  pub small : Every (λ (x : ℕ). x < 256) b
 
 -- a rule without the nonterminals of its parts, and these
 abbrev pub ruleCell : Rule → RuleCell

@@ -6,12 +6,11 @@ use mathlib.Core.List.{List, [], _∷_}
 use native.Mathlib.Omega.{arith}
 use lib.ListN.{length}
 use lib.Dec.{eqb, leb, ltb}
-use borrow.Author.Tests.{le-leb, lt-leb, le-ltb, lt-ltb, leb-true, ltb-true}
+use borrow.Author.Tests.{eqb-true, le-leb, lt-leb, le-ltb, lt-ltb, leb-true, ltb-true}
 use Rattle.hextext.specs.Text.{badLine, lines}
-use Rattle.sheet.specs.declared.line.Line.{Line}
 use Rattle.sheet.specs.Sheet.{Grammar, Playing, Timing, unitIn, endOf, barOf, inBar}
 use Rattle.sheet.specs.Outcome.{refused, accepted}
-use Rattle.sheet.specs.Reading.{demand, first, byte, four, allBelow, bytesFrom, lineOf, headRefusal, divisionRefusal, leafRefusal}
+use Rattle.sheet.specs.Reading.{demand, first, byte, four, allBelow, bytesFrom, headRefusal, divisionRefusal, leafRefusal}
 use Rattle.sheet.specs.Reading.{playingRefusal, onsetForm, momentRefusal, roomRefusal, onsetRefusal, Progress, nothing, inRules}
 use Rattle.sheet.specs.Reading.{inOnsets, refusal, after, atEnd, readLines, readFormed, readSheet}
 
@@ -38,44 +37,46 @@ first-failed zero b f = absurd (f refl)
 first-failed (suc a) b f = refl
 
 -- k bytes of a line are k
-pub length-bytes : (l : Line) (k i : ℕ) → length (bytesFrom k i l) ≡ k
+pub length-bytes : (l : List ℕ) (k i : ℕ) → length (bytesFrom k i l) ≡ k
 unfolding bytesFrom
 length-bytes l zero i = refl
 length-bytes l (suc k) i = ap suc (length-bytes l k (i + 1))
 
 -- what a line that is not refused has been held to
-pub record HeadPassed (l : Line) : Type 0 where
+pub record HeadPassed (l : List ℕ) : Type 0 where
   pub one : 1 ≤ byte l 1
   pub sixteen : byte l 1 ≤ 16
   pub start : byte l 2 < byte l 1
 
-pub head-passed : (l : Line) → headRefusal l ≡ 0 → HeadPassed l
+pub head-passed : (l : List ℕ) → headRefusal l ≡ 0 → HeadPassed l
 unfolding headRefusal
 head-passed l e =
-    let e₁ = demand-zero (eqb (l .count) 5) 3 _ e .1 in
+    let e₁ = demand-zero (eqb (length l) 5) 3 _ e .1 in
     let e₂ = demand-zero (leb 1 (byte l 1)) 4 _ e₁ in
     let e₃ = demand-zero (leb (byte l 1) 16) 4 _ (e₂ .1) in
     let e₄ = demand-zero (ltb (byte l 2) (byte l 1)) 4 0 (e₃ .1) in
     record { one = leb-true _ _ (e₂ .0); sixteen = leb-true _ _ (e₃ .0); start = ltb-true _ _ (e₄ .0) }
 
-pub record DivisionPassed (q before : ℕ) (l : Line) : Type 0 where
+pub record DivisionPassed (q before : ℕ) (l : List ℕ) : Type 0 where
+  pub count : length l ≡ 5 + byte l 4
   pub least : 2 ≤ byte l 4
   pub most : byte l 4 ≤ 8
   pub head : byte l 1 < q
   pub parts : allBelow q (bytesFrom (byte l 4) 5 l) ≡ true
   pub room : before < 64
 
-pub division-passed : (q before : ℕ) (l : Line) → divisionRefusal q before l ≡ 0 → DivisionPassed q before l
+pub division-passed : (q before : ℕ) (l : List ℕ) → divisionRefusal q before l ≡ 0 → DivisionPassed q before l
 unfolding divisionRefusal
 division-passed q n l e =
-    let e₁ = demand-zero (leb 5 (l .count)) 3 _ e .1 in
+    let e₁ = demand-zero (leb 5 (length l)) 3 _ e .1 in
     let e₂ = demand-zero (leb 2 (byte l 4)) 4 _ e₁ in
     let e₃ = demand-zero (leb (byte l 4) 8) 4 _ (e₂ .1) in
-    let e₄ = demand-zero (eqb (l .count) (5 + byte l 4)) 3 _ (e₃ .1) in
+    let e₄ = demand-zero (eqb (length l) (5 + byte l 4)) 3 _ (e₃ .1) in
     let e₅ = demand-zero (ltb (byte l 1) q) 4 _ (e₄ .1) in
     let e₆ = demand-zero (allBelow q (bytesFrom (byte l 4) 5 l)) 4 _ (e₅ .1) in
     let e₇ = demand-zero (ltb n 64) 7 0 (e₆ .1) in
     record {
+      count = eqb-true _ _ (e₄ .0);
       least = leb-true _ _ (e₂ .0);
       most = leb-true _ _ (e₃ .0);
       head = ltb-true _ _ (e₅ .0);
@@ -83,30 +84,31 @@ division-passed q n l e =
       room = ltb-true _ _ (e₇ .0);
     }
 
-pub record LeafPassed (q before : ℕ) (l : Line) : Type 0 where
+pub record LeafPassed (q before : ℕ) (l : List ℕ) : Type 0 where
+  pub count : length l ≡ 5
   pub head : byte l 1 < q
   pub kind : byte l 4 ≤ 4
   pub room : before < 64
 
-pub leaf-passed : (q before : ℕ) (l : Line) → leafRefusal q before l ≡ 0 → LeafPassed q before l
+pub leaf-passed : (q before : ℕ) (l : List ℕ) → leafRefusal q before l ≡ 0 → LeafPassed q before l
 unfolding leafRefusal
 leaf-passed q n l e =
-    let e₁ = demand-zero (eqb (l .count) 5) 3 _ e .1 in
-    let e₂ = demand-zero (ltb (byte l 1) q) 4 _ e₁ in
+    let e₁ = demand-zero (eqb (length l) 5) 3 _ e in
+    let e₂ = demand-zero (ltb (byte l 1) q) 4 _ (e₁ .1) in
     let e₃ = demand-zero (leb (byte l 4) 4) 4 _ (e₂ .1) in
     let e₄ = demand-zero (ltb n 64) 7 0 (e₃ .1) in
-    record { head = ltb-true _ _ (e₂ .0); kind = leb-true _ _ (e₃ .0); room = ltb-true _ _ (e₄ .0) }
+    record { count = eqb-true _ _ (e₁ .0); head = ltb-true _ _ (e₂ .0); kind = leb-true _ _ (e₃ .0); room = ltb-true _ _ (e₄ .0) }
 
-pub record PlayingPassed (l : Line) : Type 0 where
+pub record PlayingPassed (l : List ℕ) : Type 0 where
   pub one : 1 ≤ byte l 1
   pub sixty-four : byte l 1 ≤ 64
   pub shortest : 1000 ≤ four l 2
   pub longest : four l 2 ≤ 60_000_000
 
-pub playing-passed : (l : Line) → playingRefusal l ≡ 0 → PlayingPassed l
+pub playing-passed : (l : List ℕ) → playingRefusal l ≡ 0 → PlayingPassed l
 unfolding playingRefusal
 playing-passed l e =
-    let e₁ = demand-zero (eqb (l .count) 6) 3 _ e .1 in
+    let e₁ = demand-zero (eqb (length l) 6) 3 _ e .1 in
     let e₂ = demand-zero (leb 1 (byte l 1)) 4 _ e₁ in
     let e₃ = demand-zero (leb (byte l 1) 64) 4 _ (e₂ .1) in
     let e₄ = demand-zero (leb 1000 (four l 2)) 4 _ (e₃ .1) in
@@ -132,18 +134,18 @@ room-passed before here e =
     let e₂ = demand-zero (ltb here 32) 7 0 (e₁ .1) in
     (ltb-true _ _ (e₁ .0), ltb-true _ _ (e₂ .0))
 
-form-passed : (l : Line) → onsetForm l ≡ 0 → byte l 5 ≤ 127
+form-passed : (l : List ℕ) → onsetForm l ≡ 0 → byte l 5 ≤ 127
 unfolding onsetForm
-form-passed l e = leb-true _ _ (demand-zero (leb (byte l 5) 127) 4 _ (demand-zero (eqb (l .count) 7) 3 _ e .1) .0)
+form-passed l e = leb-true _ _ (demand-zero (leb (byte l 5) 127) 4 _ (demand-zero (eqb (length l) 7) 3 _ e .1) .0)
 
-pub record OnsetPassed (timing : Timing) (p : Playing) (last : ℕ) (l : Line) : Type 0 where
+pub record OnsetPassed (timing : Timing) (p : Playing) (last : ℕ) (l : List ℕ) : Type 0 where
   pub pitch : byte l 5 ≤ 127
   pub rises : last ≤ four l 1
   pub inside : four l 1 < endOf (p .bars) timing
   pub room : length (p .onsets) < 512
   pub few : inBar (barOf (unitIn timing (four l 1))) (p .onsets) < 32
 
-pub onset-passed : (timing : Timing) (p : Playing) (last : ℕ) (l : Line) → onsetRefusal timing p last l ≡ 0 → OnsetPassed timing p last l
+pub onset-passed : (timing : Timing) (p : Playing) (last : ℕ) (l : List ℕ) → onsetRefusal timing p last l ≡ 0 → OnsetPassed timing p last l
 unfolding onsetRefusal
 onset-passed timing p last l e =
     let e₁ = first-zero (onsetForm l) _ e in
@@ -153,12 +155,12 @@ onset-passed timing p last l e =
     record { pitch = form-passed l (e₁ .0); rises = moment .0; inside = moment .1; room = room .0; few = room .1 }
 
 -- a line that is not refused, and one that is
-pub read-on : (r : Progress) (n : ℕ) (b : List ℕ) (ls : List (List ℕ)) → refusal r (lineOf b) ≡ 0
-    → readLines r n (b ∷ ls) ≡ readLines (after r (lineOf b)) (n + 1) ls
+pub read-on : (r : Progress) (n : ℕ) (b : List ℕ) (ls : List (List ℕ)) → refusal r b ≡ 0
+    → readLines r n (b ∷ ls) ≡ readLines (after r b) (n + 1) ls
 unfolding readLines
 read-on r n b ls e = simp (readLines, e)
 
-pub read-stop : (r : Progress) (n : ℕ) (b : List ℕ) (ls : List (List ℕ)) (k : ℕ) → k ≡ refusal r (lineOf b) → (k ≡ 0 → ⊥)
+pub read-stop : (r : Progress) (n : ℕ) (b : List ℕ) (ls : List (List ℕ)) (k : ℕ) → k ≡ refusal r b → (k ≡ 0 → ⊥)
     → readLines r n (b ∷ ls) ≡ refused k n
 unfolding readLines
 read-stop r n b ls zero e f = absurd (f refl)

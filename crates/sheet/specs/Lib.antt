@@ -15,7 +15,8 @@ pub mod Multiplier
 pub mod HeadLines
 pub mod MultiplierLaws
 pub mod Demands
-pub mod Buffer
+pub mod Rest
 pub mod Literal
 pub mod Cases
+pub mod LineCases
 pub mod Refuted

@@ -18,7 +18,7 @@ use Rattle.hextext.specs.Formed.{first-line}
 use Rattle.sheet.specs.Sheet.{Sheet, TimedSheet}
 use Rattle.sheet.specs.Multiplier.{withMultiplier, butMultiplier, AlikeTexts, slid}
 use Rattle.sheet.specs.Outcome.{accepted, accepted-not-refused, accepted-value}
-use Rattle.sheet.specs.Reading.{byte, lineOf, headRefusal, nothing, refusal, readLines, readSheet}
+use Rattle.sheet.specs.Reading.{byte, headRefusal, nothing, refusal, readLines, readSheet}
 use Rattle.sheet.specs.Accepted.{Accepts}
 use Rattle.sheet.specs.Laws.{demand-zero, cond-zero, read-stop, too-long, ill-formed, well-formed}
 use Rattle.sheet.specs.HeadLines.{meaningWith, Around, head, headed, Small, small-with, headed-lines, same-head, headed-alike}
@@ -75,12 +75,12 @@ module _ (t : List ℕ) (m : TimedSheet) (e : readSheet t ≡ accepted m) where
 
   -- the first line is not refused, so it has five bytes
   head-count : length l ≡ 5
-  unfolding refusal headRefusal lineOf
-  head-count = go (refusal nothing (lineOf l)) refl
+  unfolding refusal headRefusal
+  head-count = go (refusal nothing l) refl
     where
-      go : (k : ℕ) → refusal nothing (lineOf l) ≡ k → length l ≡ 5
+      go : (k : ℕ) → refusal nothing l ≡ k → length l ≡ 5
       go zero q =
-          let z = cond-zero (eqb (byte (lineOf l) 0) 0x47) (headRefusal (lineOf l)) 2 q in
+          let z = cond-zero (eqb (byte l 0) 0x47) (headRefusal l) 2 q in
           eqb-true (length l) 5 (demand-zero (eqb (length l) 5) 3 _ (z .1) .0)
       go (suc k) q =
           let stopped = read-stop nothing 1 l (lines behind) (suc k) (sym q) (λ z. omega arith) in

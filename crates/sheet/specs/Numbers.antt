@@ -8,10 +8,9 @@ use native.Mathlib.Omega.{arith}
 use lib.ListN.{length}
 use lib.Dec.{ltb}
 use Rattle.hextext.specs.Text.{badLine, lines}
-use Rattle.sheet.specs.declared.line.Line.{Line}
 use Rattle.sheet.specs.Sheet.{Playing, Timing, TimedSheet}
 use Rattle.sheet.specs.Outcome.{Outcome, refused, accepted}
-use Rattle.sheet.specs.Reading.{demand, first, lineOf, Progress, nothing, inRules, inOnsets, headRefusal, divisionRefusal}
+use Rattle.sheet.specs.Reading.{demand, first, Progress, nothing, inRules, inOnsets, headRefusal, divisionRefusal}
 use Rattle.sheet.specs.Reading.{leafRefusal}
 use Rattle.sheet.specs.Reading.{ruleRefusal, playingRefusal, onsetForm, momentRefusal, roomRefusal, onsetRefusal, rulesRefusal}
 use Rattle.sheet.specs.Reading.{refusal}
@@ -59,27 +58,27 @@ eight = omega arith
 
 ruleset small = (pass, either, one-of, none, three, four, five, six, seven, eight)
 
-head-small : (l : Line) → Small (headRefusal l)
+head-small : (l : List ℕ) → Small (headRefusal l)
 unfolding headRefusal
 head-small l = search small depth 10
 
-division-small : (q before : ℕ) (l : Line) → Small (divisionRefusal q before l)
+division-small : (q before : ℕ) (l : List ℕ) → Small (divisionRefusal q before l)
 unfolding divisionRefusal
 division-small q before l = search small depth 10
 
-leaf-small : (q before : ℕ) (l : Line) → Small (leafRefusal q before l)
+leaf-small : (q before : ℕ) (l : List ℕ) → Small (leafRefusal q before l)
 unfolding leafRefusal
 leaf-small q before l = search small depth 10
 
-playing-small : (l : Line) → Small (playingRefusal l)
+playing-small : (l : List ℕ) → Small (playingRefusal l)
 unfolding playingRefusal
 playing-small l = search small depth 10
 
-rule-small : (q before : ℕ) (l : Line) → Small (ruleRefusal q before l)
+rule-small : (q before : ℕ) (l : List ℕ) → Small (ruleRefusal q before l)
 unfolding ruleRefusal
 rule-small q before l = search (small, division-small, leaf-small) depth 10
 
-form-small : (l : Line) → Small (onsetForm l)
+form-small : (l : List ℕ) → Small (onsetForm l)
 unfolding onsetForm
 form-small l = search small depth 10
 
@@ -91,11 +90,11 @@ room-small : (before here : ℕ) → Small (roomRefusal before here)
 unfolding roomRefusal
 room-small before here = search small depth 10
 
-onset-small : (timing : Timing) (p : Playing) (last : ℕ) (l : Line) → Small (onsetRefusal timing p last l)
+onset-small : (timing : Timing) (p : Playing) (last : ℕ) (l : List ℕ) → Small (onsetRefusal timing p last l)
 unfolding onsetRefusal
 onset-small timing p last l = search (small, form-small, moment-small, room-small) depth 10
 
-refusal-small : (r : Progress) (l : Line) → Small (refusal r l)
+refusal-small : (r : Progress) (l : List ℕ) → Small (refusal r l)
 unfolding refusal rulesRefusal
 refusal-small nothing l = search (small, head-small)
 refusal-small (inRules g) l = search (small, rule-small, playing-small) depth 10
@@ -120,10 +119,10 @@ end-small (inOnsets g timing p last) n = go (ltb 0 (length (p .onsets)))
 lines-small : (r : Progress) (n : ℕ) (ls : List (List ℕ)) → SmallIn (readLines r n ls)
 unfolding readLines
 lines-small r n [] = end-small r n
-lines-small r n (l ∷ ls) = go (refusal r (lineOf l)) (refusal-small r (lineOf l)) (lines-small (after r (lineOf l)) (n + 1) ls)
+lines-small r n (l ∷ ls) = go (refusal r l) (refusal-small r l) (lines-small (after r l) (n + 1) ls)
   where
-    go : (k : ℕ) → Small k → SmallIn (readLines (after r (lineOf l)) (n + 1) ls)
-        → SmallIn (elim k [ zero ↦ readLines (after r (lineOf l)) (n + 1) ls | suc j ↦ refused (suc j) n ])
+    go : (k : ℕ) → Small k → SmallIn (readLines (after r l) (n + 1) ls)
+        → SmallIn (elim k [ zero ↦ readLines (after r l) (n + 1) ls | suc j ↦ refused (suc j) n ])
     go zero h rest = rest
     go (suc j) h rest = h
 

@@ -6,7 +6,6 @@ use mathlib.Core.List.{List, [], _∷_, _++_}
 use lib.ListN.{length, getD}
 use lib.Dec.{ltb, leb, eqb}
 use Rattle.hextext.specs.Text.{badLine, lines}
-use Rattle.sheet.specs.declared.line.Line.{Line}
 use Rattle.sheet.specs.Sheet.{Rule, division, leaf, Onset, Grammar, Playing, Sheet, Timing, TimedSheet, unitOf, unitIn, endOf, barOf}
 use Rattle.sheet.specs.Sheet.{inBar}
 use Rattle.sheet.specs.Outcome.{Outcome, refused, accepted, andThen}
@@ -21,22 +20,18 @@ abbrev pub first : (refusal after : ℕ) → ℕ
 first zero after = after
 first (suc k) after = suc k
 
--- a line: how many bytes it has, and the bytes
-unfoldable pub lineOf : List ℕ → Line
-lineOf l = record { count = length l; bytes = l }
+-- a line is the list of its bytes. "Fields are big-endian": byte i of a line, and the numbers of 2 and 4 bytes that start there
+abbrev pub byte : List ℕ → ℕ → ℕ
+byte l i = getD l i 0
 
--- "Fields are big-endian": byte i of a line, and the numbers of 2 and 4 bytes that start there
-abbrev pub byte : Line → ℕ → ℕ
-byte l i = getD (l .bytes) i 0
-
-unfoldable pub two : Line → ℕ → ℕ
+unfoldable pub two : List ℕ → ℕ → ℕ
 two l i = byte l i * 256 + byte l (i + 1)
 
-unfoldable pub four : Line → ℕ → ℕ
+unfoldable pub four : List ℕ → ℕ → ℕ
 four l i = two l i * 65536 + two l (i + 2)
 
 -- k bytes of a line, from byte i on
-unfoldable pub bytesFrom : (k i : ℕ) → Line → List ℕ
+unfoldable pub bytesFrom : (k i : ℕ) → List ℕ → List ℕ
 bytesFrom zero i l = []
 bytesFrom (suc k) i l = byte l i ∷ bytesFrom k (i + 1) l
 
@@ -46,79 +41,79 @@ allBelow q [] = true
 allBelow q (x ∷ xs) = ltb x q && allBelow q xs
 
 -- `47` grammar head, 5 bytes: kind, Q (1 to 16), start nonterminal, multiplier a (2 bytes, any)
-unfoldable pub headRefusal : Line → ℕ
+unfoldable pub headRefusal : List ℕ → ℕ
 headRefusal l =
-    demand (eqb (l .count) 5) 4
+    demand (eqb (length l) 5) 4
     (demand (leb 1 (byte l 1)) 5
     (demand (leb (byte l 1) 16) 5
     (demand (ltb (byte l 2) (byte l 1)) 5
     0)))
 
-unfoldable pub headOf : Line → Grammar
+unfoldable pub headOf : List ℕ → Grammar
 headOf l = record { nonterminals = byte l 1; start = byte l 2; multiplier = two l 3; rules = [] }
 
 -- `44` division, 5 + k bytes: kind, head, weight (2 bytes, any), k (2 to 8), k nonterminals; q is Q, `before` the number of rules before
 -- it.
 -- "Fewer than 5 bytes (4), then k (5), then the exact count (4), then other fields (5)"; rule 65 (8)
-unfoldable pub divisionRefusal : (q before : ℕ) → Line → ℕ
+unfoldable pub divisionRefusal : (q before : ℕ) → List ℕ → ℕ
 divisionRefusal q before l =
-    demand (leb 5 (l .count)) 4
+    demand (leb 5 (length l)) 4
     (demand (leb 2 (byte l 4)) 5
     (demand (leb (byte l 4) 8) 5
-    (demand (eqb (l .count) (5 + byte l 4)) 4
+    (demand (eqb (length l) (5 + byte l 4)) 4
     (demand (ltb (byte l 1) q) 5
     (demand (allBelow q (bytesFrom (byte l 4) 5 l)) 5
     (demand (ltb before 64) 8
     0))))))
 
-unfoldable pub divisionOf : Line → Rule
+unfoldable pub divisionOf : List ℕ → Rule
 divisionOf l = division (byte l 1) (two l 2) (bytesFrom (byte l 4) 5 l)
 
 -- `4C` leaf, 5 bytes: kind, head, weight (2 bytes, any), n (document 02, (i): "from 0 to 4"); rule 65 (8)
-unfoldable pub leafRefusal : (q before : ℕ) → Line → ℕ
+unfoldable pub leafRefusal : (q before : ℕ) → List ℕ → ℕ
 leafRefusal q before l =
-    demand (eqb (l .count) 5) 4
+    demand (eqb (length l) 5) 4
     (demand (ltb (byte l 1) q) 5
     (demand (leb (byte l 4) 4) 5
     (demand (ltb before 64) 8
     0)))
 
-unfoldable pub leafOf : Line → Rule
+unfoldable pub leafOf : List ℕ → Rule
 leafOf l = leaf (byte l 1) (two l 2) (byte l 4)
 
 unfoldable pub withRule : Grammar → Rule → Grammar
 withRule g r = record { nonterminals = g .nonterminals; start = g .start; multiplier = g .multiplier; rules = g .rules ++ (r ∷ []) }
 
 -- a line that adds a rule, by its kind; any other kind is out of order
-unfoldable pub ruleRefusal : (q before : ℕ) → Line → ℕ
+unfoldable pub ruleRefusal : (q before : ℕ) → List ℕ → ℕ
 ruleRefusal q before l =
     cond (eqb (byte l 0) 0x44) (divisionRefusal q before l)
     (cond (eqb (byte l 0) 0x4C) (leafRefusal q before l)
     3)
 
-unfoldable pub ruleOf : Line → Rule
+unfoldable pub ruleOf : List ℕ → Rule
 ruleOf l = cond (eqb (byte l 0) 0x44) (divisionOf l) (leafOf l)
 
 -- `45` playing head, 6 bytes: kind, bars B (1 to 64), one bar's duration in microseconds (4 bytes, 1,000 to 60,000,000)
-unfoldable pub playingRefusal : Line → ℕ
+unfoldable pub playingRefusal : List ℕ → ℕ
 playingRefusal l =
-    demand (eqb (l .count) 6) 4
+    demand (eqb (length l) 6) 4
     (demand (leb 1 (byte l 1)) 5
     (demand (leb (byte l 1) 64) 5
     (demand (leb 1000 (four l 2)) 5
     (demand (leb (four l 2) 60_000_000) 5
     0))))
 
-unfoldable pub playingOf : Line → Playing
+unfoldable pub playingOf : List ℕ → Playing
 playingOf l = record { bars = byte l 1; onsets = [] }
 
-unfoldable pub timingOf : Line → Timing
+unfoldable pub timingOf : List ℕ → Timing
 timingOf l = record { duration = four l 2 }
 
 -- `4E` onset, 7 bytes: kind, time in microseconds (4), pitch (0 to 127), velocity (1 to 127)
-unfoldable pub onsetForm : Line → ℕ
+unfoldable pub onsetForm : List ℕ → ℕ
 onsetForm l =
-    demand (eqb (l .count) 7) 4
+    demand (eqb (length l) 7) 4
     (demand (leb (byte l 5) 127) 5
     (demand (leb 1 (byte l 6)) 5
     (demand (leb (byte l 6) 127) 5
@@ -139,13 +134,13 @@ roomRefusal before here =
     0)
 
 -- an onset after the playing p, whose last onset is at the time `last`
-unfoldable pub onsetRefusal : Timing → Playing → (last : ℕ) → Line → ℕ
+unfoldable pub onsetRefusal : Timing → Playing → (last : ℕ) → List ℕ → ℕ
 onsetRefusal timing p last l =
     first (onsetForm l)
     (first (momentRefusal (p .bars) timing last (four l 1))
     (roomRefusal (length (p .onsets)) (inBar (barOf (unitIn timing (four l 1))) (p .onsets))))
 
-unfoldable pub onsetOf : Timing → Line → Onset
+unfoldable pub onsetOf : Timing → List ℕ → Onset
 onsetOf timing l = record { unit = unitIn timing (four l 1); pitch = byte l 5 }
 
 unfoldable pub withOnset : Playing → Onset → Playing
@@ -159,19 +154,19 @@ pub data Progress : Type 0 where
   inOnsets : Grammar → Timing → Playing → (last : ℕ) → Progress
 
 -- after the `47` line, with q nonterminals and `before` rules: the `45` line after one rule or more, or a rule
-unfoldable pub rulesRefusal : (q before : ℕ) → Line → ℕ
+unfoldable pub rulesRefusal : (q before : ℕ) → List ℕ → ℕ
 rulesRefusal q before l =
     cond (eqb (byte l 0) 0x45) (demand (ltb 0 before) 3 (playingRefusal l))
     (ruleRefusal q before l)
 
 -- "Order: one 47; 1 to 64 lines of 44 or 4C; one 45; 1 to 512 of 4E": the refusal of the next line, 3 to 8; 0: none
-unfoldable pub refusal : Progress → Line → ℕ
+unfoldable pub refusal : Progress → List ℕ → ℕ
 refusal nothing l = cond (eqb (byte l 0) 0x47) (headRefusal l) 3
 refusal (inRules g) l = rulesRefusal (g .nonterminals) (length (g .rules)) l
 refusal (inOnsets g timing p last) l = cond (eqb (byte l 0) 0x4E) (onsetRefusal timing p last l) 3
 
 -- what has been read after a line that is not refused
-unfoldable pub after : Progress → Line → Progress
+unfoldable pub after : Progress → List ℕ → Progress
 after nothing l = inRules (headOf l)
 after (inRules g) l = cond (eqb (byte l 0) 0x45) (inOnsets g (timingOf l) (playingOf l) 0) (inRules (withRule g (ruleOf l)))
 after (inOnsets g timing p last) l = inOnsets g timing (withOnset p (onsetOf timing l)) (four l 1)
@@ -187,7 +182,7 @@ atEnd (inOnsets g timing p last) n =
 unfoldable pub readLines : Progress → ℕ → List (List ℕ) → Outcome TimedSheet
 readLines r n [] = atEnd r n
 readLines r n (l ∷ ls) =
-    elim (refusal r (lineOf l)) [ zero ↦ readLines (after r (lineOf l)) (n + 1) ls | suc k ↦ refused (suc k) n ]
+    elim (refusal r l) [ zero ↦ readLines (after r l) (n + 1) ls | suc k ↦ refused (suc k) n ]
 
 -- refusal 2 over the whole text, given its first bad line, 0 for none; then line by line
 unfoldable pub readFormed : ℕ → List ℕ → Outcome TimedSheet
@@ -196,7 +191,7 @@ readFormed (suc n) t = refused 2 (suc n)
 
 -- refusal 1, text over 16,384 bytes; then 2; then line by line 3, 4, 5, 6, 7, 8
 unfoldable pub readSheet : List ℕ → Outcome TimedSheet
-unfolding readFormed badLine readLines lines lineOf atEnd refusal rulesRefusal ruleRefusal ruleOf after headRefusal headOf divisionRefusal
+unfolding readFormed badLine readLines lines atEnd refusal rulesRefusal ruleRefusal ruleOf after headRefusal headOf divisionRefusal
     divisionOf allBelow bytesFrom leafRefusal leafOf withRule playingRefusal playingOf timingOf onsetForm momentRefusal roomRefusal
     onsetRefusal
     onsetOf withOnset inBar unitOf two four

@@ -3,9 +3,6 @@
 // The most bytes of a text.
 pub const TEXT_MOST: usize = 16384;
 
-// The bytes of a line that are held.
-pub const LINE_BYTES: usize = 16;
-
 // The most nonterminals of a grammar.
 pub const NONTERMINALS_MOST: usize = 16;
 

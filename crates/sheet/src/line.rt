@@ -1,35 +1,24 @@
-// A line of a sheet and its fields.
+// The fields of a line of a sheet.
 ghost use mathlib.Core.Path.{_≡_};
-ghost use Prim.Native.Nat.{_+_, _<_};
-ghost use Rattle.sheet.specs.Reading.{two, four};
-ghost use Rattle.sheet.specs.Held.{LineTaken};
-use crate::limits::LINE_BYTES;
+ghost use mathlib.Core.List.{List};
+ghost use Prim.Native.Nat.{ℕ, _+_, _<_};
+ghost use Rattle.sheet.specs.Reading.{byte, two, four};
+ghost use Rattle.sheet.specs.Held.{LineHeld};
+use hextext::Line;
 
-// How many bytes a line has, and the first 16 of them, with 0 in the places that are left. No kind of line has more than 13.
-pub struct Line {
-    pub count: usize,
-    pub bytes: [u8; LINE_BYTES],
-}
-
-// A line, and the place in the text behind it.
-pub struct Taken {
-    pub line: Line,
-    pub next: usize,
-}
-
-// The line that starts at place `at` of a text.
-pub fn line_at(text: &[u8], at: usize) -> Taken
-    ensures { λ r. ⌜ LineTaken (now (text .entry)) at r ⌝ }
+// Byte i of a line, one of its first eight or of its last eight; 0 past its end.
+pub fn byte_at(l: Line, i: usize) -> u8
+    requires { ⌜ (i + 8 < l .count → i < 8) ⌝ }
+    ensures { λ r. ⌜ ((b : List ℕ) → LineHeld l b → r ≡ byte b i) ⌝ }
 {
-    let mut bytes = [0u8; LINE_BYTES];
-    let read = hextext::next_line(text, at, &mut bytes);
-    Taken {
-        line: Line {
-            count: read.count,
-            bytes,
-        },
-        next: read.next,
+    if l.count <= i {
+        return 0;
     }
+    let behind = l.count - i - 1;
+    if behind < 8 {
+        return ((l.tail >> (8 * behind)) % 256) as u8;
+    }
+    ((l.front >> (8 * (7 - i))) % 256) as u8
 }
 
 fn wide(x: u8) -> u32
@@ -47,19 +36,24 @@ pub fn narrow(x: u32) -> u16
 
 // The number of two bytes of a line, from byte i on.
 pub fn two_at(l: Line, i: usize) -> u32
-    requires { ⌜ i < 15 ⌝ }
-    ensures { λ r. ⌜ (r ≡ two l i) × (r < 65536) ⌝ }
+    requires { ⌜ i < 7 ⌝ }
+    ensures { λ r. ⌜ (r < 65536) × ((b : List ℕ) → LineHeld l b → r ≡ two b i) ⌝ }
 {
-    let high = wide(l.bytes[i]);
-    let low = wide(l.bytes[i + 1]);
+    let high = wide(byte_at(l, i));
+    let low = wide(byte_at(l, i + 1));
     high * 256 + low
 }
 
-// The number of four bytes of a line, from byte i on.
+// The number of four bytes of a line, from byte i on: of a line of at most eight, in which these are, it is one part of its number.
 pub fn four_at(l: Line, i: usize) -> u32
-    requires { ⌜ i < 13 ⌝ }
-    ensures { λ r. ⌜ r ≡ four l i ⌝ }
+    requires { ⌜ i < 5 ⌝ }
+    ensures { λ r. ⌜ ((b : List ℕ) → LineHeld l b → r ≡ four b i) ⌝ }
 {
+    if l.count <= 8 {
+        if i + 4 <= l.count {
+            return ((l.tail >> (8 * (l.count - i - 4))) % 4294967296) as u32;
+        }
+    }
     let high = two_at(l, i);
     let low = two_at(l, i + 2);
     high * 65536 + low

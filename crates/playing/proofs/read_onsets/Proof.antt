@@ -7,27 +7,21 @@ use mathlib.Core.Path.{refl}
 use native.Mathlib.Nat.{le-trans, le-of-eq}
 use lib.ListN.{length}
 use Rattle.hextext.specs.Laws.{line-falls}
-use Rattle.playing.proofs.OnsetLoop.{OnsetsSoFar, onsets-none, onsets-stop, onsets-room, onsets-more, onsets-missing}
-use Rattle.playing.proofs.OnsetLoop.{onsets-done, take-refused}
+use Rattle.sheet.specs.Reading.{nothing}
+use Rattle.sheet.specs.Rest.{rest-next}
 use Rattle.sheet.specs.Held.{timingTable}
 use Rattle.playing.specs.Contracts.{timingIn}
+use Rattle.playing.proofs.OnsetLoop.{OnsetsSoFar, onsets-none, onsets-bad, onsets-stop, onsets-room, onsets-more, onsets-missing}
+use Rattle.playing.proofs.OnsetLoop.{onsets-done, take-refused}
 use Rattle.playing.proofs.read_onsets.Statement.{statement}
 use Rattle.playing.proofs.read_onsets.Tie as tie
 
 abbrev Inv-loop : tie.InvT-loop
-Inv-loop text at line bars timing playing₀ latest₀ at₀ line₀ n₀ playing latest at' line' n = OnsetsSoFar text at line bars
+Inv-loop digits text at line bars timing playing₀ latest₀ at₀ line₀ n₀ playing latest at' line' n = OnsetsSoFar text at line bars
     (timingIn timing) playing latest at' line' n
 
 abbrev μ-loop : tie.MeasureT-loop
-μ-loop text at line bars timing playing₀ latest₀ at₀ line₀ n₀ playing latest at' line' n = length text - at'
-
--- where a line is taken as an onset there is room for it
-room : (c : tie.Else1 Inv-loop μ-loop) → c .before .before .before .before .before .loop .n < 512
-room c =
-    let loop = c .before .before .before .before .before .loop in
-    let line-at = c .before .before .before .line-at in
-    let onset-step = c .before .onset-step in
-    onsets-room (loop .inv) (search needs) _ (line-at .ensures .line) (onset-step .result) (onset-step .ensures) (c .if1 .left)
+μ-loop digits text at line bars timing playing₀ latest₀ at₀ line₀ n₀ playing latest at' line' n = length text - at'
 
 no-onsets-requires : tie.Need-no-onsets-requires Inv-loop μ-loop
 no-onsets-requires c κs = search needs
@@ -35,15 +29,10 @@ no-onsets-requires c κs = search needs
 loop-holds : tie.Need-loop-holds Inv-loop μ-loop
 loop-holds c =
     let pre = c .before .before .pre in
-    onsets-none _ _ _ _ _ _ (pre .0) (pre .1) (pre .2) (c .no-onsets .ensures)
+    onsets-none _ _ _ _ _ _ (pre .1) (pre .2) (pre .3) (pre .4) (c .no-onsets .ensures)
 
 line-at-requires : tie.Need-line-at-requires Inv-loop μ-loop
 line-at-requires c κs = search needs
-
-onset-step-requires : tie.Need-onset-step-requires Inv-loop μ-loop
-onset-step-requires c κs =
-    let loop = c .before .before .before .loop in
-    let h = loop .inv in le-trans (le-of-eq (h .bars-are)) (h .good .onsets .sixty-four)
 
 refused-take-requires : tie.Need-refused-take-requires Inv-loop μ-loop
 refused-take-requires c κs = search needs
@@ -51,11 +40,44 @@ refused-take-requires c κs = search needs
 returns : tie.Need-returns Inv-loop μ-loop
 returns c g =
     let at-if1 = c .before in
-    let loop = at-if1 .before .before .before .before .before .loop in
-    let line-at = at-if1 .before .before .before .line-at in
-    let onset-step = at-if1 .before .onset-step in
-    take-refused _ (c .refused-take .ensures .0) (c .refused-take .ensures .1) (at-if1 .if1 .taken)
-    (onsets-stop (loop .inv) (search needs) _ (line-at .ensures .line) (onset-step .result) (onset-step .ensures) g (at-if1 .if1 .taken))
+    let at-line = at-if1 .before .before in
+    let loop = at-line .before .before .loop in
+    take-refused _ (c .refused-take .ensures) (λ z. omega arith) (loop .inv .line)
+    (onsets-bad (loop .inv) (search needs) _ (at-line .line-at .ensures) g (at-if1 .if1 .taken) 2)
+
+onset-step-requires : tie.Need-onset-step-requires Inv-loop μ-loop
+onset-step-requires c κs =
+    let at-line = c .before .before in
+    let so = at-line .before .before .loop .inv in
+    le-trans (le-of-eq (so .bars-are)) (so .good .onsets .sixty-four)
+
+refused-take-requires-2 : tie.Need-refused-take-requires-2 Inv-loop μ-loop
+refused-take-requires-2 c κs = search needs
+
+returns-2 : tie.Need-returns-2 Inv-loop μ-loop
+returns-2 c g =
+    let at-if2 = c .before in
+    let at-step = at-if2 .before in
+    let at-if1 = at-step .before in
+    let at-line = at-if1 .before .before in
+    let loop = at-line .before .before .loop in
+    take-refused _ (c .refused-take2 .ensures) (at-if2 .if2 .taken) (loop .inv .line)
+    (onsets-stop (loop .inv) (search needs) _ (at-line .line-at .ensures) (at-if1 .if1 .left) (at-step .onset-step .result)
+    (at-step .onset-step .ensures) g (at-if2 .if2 .taken))
+
+-- a line's number is at most its place and one
+few-lines : (c : tie.After-line-at Inv-loop μ-loop) → c .before .before .loop .line < 18446744073709551615
+few-lines c = omega (arith, c .before .before .loop .inv .line)
+
+-- where a line is taken as an onset there is room for it
+room : (c : tie.Else2 Inv-loop μ-loop) → c .before .before .before .before .before .before .loop .n < 512
+room c =
+    let at-step = c .before in
+    let at-if1 = at-step .before in
+    let at-line = at-if1 .before .before in
+    let loop = at-line .before .before .loop in
+    onsets-room (loop .inv) (search needs) _ (at-line .line-at .ensures) (at-if1 .if1 .left) (at-step .onset-step .result)
+    (at-step .onset-step .ensures) (c .if2 .left)
 
 mul-u : tie.Need-mul-u Inv-loop μ-loop
 mul-u c = let m = room (c .before) in search needs
@@ -63,8 +85,8 @@ mul-u c = let m = room (c .before) in search needs
 element-set-from-u : tie.Need-element-set-from-u Inv-loop μ-loop
 element-set-from-u c = room (c .before)
 
-element-copy-out-playing : tie.Need-element-copy-out-playing Inv-loop μ-loop
-element-copy-out-playing c = search needs
+byte-at-requires : tie.Need-byte-at-requires Inv-loop μ-loop
+byte-at-requires c κs = search needs
 
 element-write-playing : tie.Need-element-write-playing Inv-loop μ-loop
 element-write-playing c = room (c .before .before)
@@ -74,48 +96,56 @@ add-n c = let m = room (c .before .before) in search needs
 
 add-line : tie.Need-add-line Inv-loop μ-loop
 add-line c =
-    let loop = c .before .before .before .before .before .before .before .before .loop in
-    let h = loop .inv in omega (arith, h .line)
+    let at-if2 = c .before .before .before in
+    let at-step = at-if2 .before in
+    let at-if1 = at-step .before in
+    let at-line = at-if1 .before .before in
+    let numbered = few-lines at-line in
+    record { fits = omega arith }
 
 loop-less : tie.Need-loop-less Inv-loop μ-loop
 loop-less c =
-    let line-at = c .before .before .before .before .before .before .line-at in
-    line-falls _ _ (search needs) _ (line-at .ensures .next)
+    let at-if2 = c .before .before .before in
+    let at-step = at-if2 .before in
+    let at-if1 = at-step .before in
+    let at-line = at-if1 .before .before in
+    let loop = at-line .before .before .loop in
+    line-falls _ _ (search needs) _ (rest-next _ _ (search needs) _ (at-line .line-at .ensures) nothing 0 (at-if1 .if1 .left))
 
 loop-again : tie.Need-loop-again Inv-loop μ-loop
 loop-again c =
-    let loop = c .before .before .before .before .before .before .before .before .loop in
-    let line-at = c .before .before .before .before .before .before .line-at in
-    let onset-step = c .before .before .before .before .onset-step in
-    let if1 = c .before .before .before .if1 in
-    let more =
-    onsets-more (loop .inv) (search needs) _ (line-at .ensures .line) (onset-step .result) (onset-step .ensures) (if1 .left) _ refl in
-    rw (line-at .ensures .next) more
+    let at-if2 = c .before .before .before in
+    let at-step = at-if2 .before in
+    let at-if1 = at-step .before in
+    let at-line = at-if1 .before .before in
+    let loop = at-line .before .before .loop in
+    onsets-more (loop .inv) (search needs) _ (at-line .line-at .ensures) (at-if1 .if1 .left) (at-step .onset-step .result)
+    (at-step .onset-step .ensures) (at-if2 .if2 .left) _ (c .before .byte-at .ensures) _ refl
 
-refused-take-requires-2 : tie.Need-refused-take-requires-2 Inv-loop μ-loop
-refused-take-requires-2 c κs = search needs
-
-returns-2 : tie.Need-returns-2 Inv-loop μ-loop
-returns-2 c g =
-    let at-if2 = c .before in
-    let loop = at-if2 .before .before .loop in
-    take-refused _ (c .refused-take2 .ensures .0) (c .refused-take2 .ensures .1) (λ z. omega arith)
-    (onsets-missing (loop .inv) (search needs) g (at-if2 .if2 .taken))
+refused-take-requires-3 : tie.Need-refused-take-requires-3 Inv-loop μ-loop
+refused-take-requires-3 c κs = search needs
 
 returns-3 : tie.Need-returns-3 Inv-loop μ-loop
-unfolding timingTable
 returns-3 c g =
-    let loop = c .before .before .loop in
-    let h = loop .inv in
+    let at-if3 = c .before in
+    let loop = at-if3 .before .before .loop in
+    take-refused _ (c .refused-take3 .ensures) (λ z. omega arith) (loop .inv .line)
+    (onsets-missing (loop .inv) (search needs) g (at-if3 .if3 .taken))
+
+returns-4 : tie.Need-returns-4 Inv-loop μ-loop
+unfolding timingTable
+returns-4 c g =
+    let so = c .before .before .loop .inv in
     record {
-      stopped = λ f. absurd (f refl);
+      stop = λ f. absurd (f refl);
+      place = λ f. absurd (f refl);
       done = λ z.
           record {
-            playing = h .playing;
+            playing = so .playing;
             timing = timingIn _;
-            table = h .table-is;
+            table = so .table-is;
             timing-table = refl;
-            sheet = onsets-done h (search needs) g (c .if2 .left);
+            sheet = onsets-done so (search needs) g (c .if3 .left);
           };
     }
 
@@ -128,17 +158,19 @@ read-onsets-spec =
     no-onsets-requires
     loop-holds
     line-at-requires
-    onset-step-requires
     refused-take-requires
     returns
+    onset-step-requires
+    refused-take-requires-2
+    returns-2
     mul-u
     element-set-from-u
-    element-copy-out-playing
+    byte-at-requires
     element-write-playing
     add-n
     add-line
     loop-less
     loop-again
-    refused-take-requires-2
-    returns-2
-    returns-3)
+    refused-take-requires-3
+    returns-3
+    returns-4)

@@ -1,44 +1,49 @@
 -- `form_refusal` meets its contract: each return has passed the demands before it. Assumes nothing.
-use borrow.Author.Needs.{needs}
 use Rattle.sheet.specs.Reading.{onsetForm}
 use Rattle.sheet.specs.Demands.{demands}
+use borrow.Author.Needs.{needs}
 use Rattle.playing.proofs.onset.form_refusal.Statement.{statement}
 use Rattle.playing.proofs.onset.form_refusal.Tie as tie
 
 returns : tie.Need-returns
 unfolding onsetForm
-returns c = search demands depth 10
+returns c b h = rw (← h .count) (search demands depth 10)
 
-element-copy-out-pitch : tie.Need-element-copy-out-pitch
-element-copy-out-pitch c = search needs
+byte-at-requires : tie.Need-byte-at-requires
+byte-at-requires c κs = search needs
 
-element-copy-out-velocity : tie.Need-element-copy-out-velocity
-element-copy-out-velocity c = search needs
+byte-at-requires-2 : tie.Need-byte-at-requires-2
+byte-at-requires-2 c κs = search needs
 
 returns-2 : tie.Need-returns-2
 unfolding onsetForm
-returns-2 c = search demands depth 10
+returns-2 c b h =
+    let at-velocity = c .before in
+    let at-pitch = at-velocity .before in
+    rw (← h .count, ← at-pitch .byte-at .ensures b h, ← at-velocity .byte-at2 .ensures b h) (search demands depth 10)
 
 returns-3 : tie.Need-returns-3
 unfolding onsetForm
-returns-3 c = search demands depth 10
+returns-3 c b h =
+    let at-velocity = c .before .before in
+    let at-pitch = at-velocity .before in
+    rw (← h .count, ← at-pitch .byte-at .ensures b h, ← at-velocity .byte-at2 .ensures b h) (search demands depth 10)
 
 returns-4 : tie.Need-returns-4
 unfolding onsetForm
-returns-4 c = search demands depth 10
+returns-4 c b h =
+    let at-velocity = c .before .before .before in
+    let at-pitch = at-velocity .before in
+    rw (← h .count, ← at-pitch .byte-at .ensures b h, ← at-velocity .byte-at2 .ensures b h) (search demands depth 10)
 
 returns-5 : tie.Need-returns-5
 unfolding onsetForm
-returns-5 c = search demands depth 10
+returns-5 c b h =
+    let at-velocity = c .before .before .before in
+    let at-pitch = at-velocity .before in
+    rw (← h .count, ← at-pitch .byte-at .ensures b h, ← at-velocity .byte-at2 .ensures b h) (search demands depth 10)
 
 pub form-refusal-spec : {M : Type 1} → statement M
 form-refusal-spec =
     tie.close
-    (tie.spec
-    returns
-    element-copy-out-pitch
-    element-copy-out-velocity
-    returns-2
-    returns-3
-    returns-4
-    returns-5)
+    (tie.spec returns byte-at-requires byte-at-requires-2 returns-2 returns-3 returns-4 returns-5)

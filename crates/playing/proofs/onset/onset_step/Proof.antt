@@ -6,71 +6,66 @@ use native.Mathlib.Nat.{lt-of-lt-of-le, mul-le-mul-right}
 use Prim.Native.Nat.{ℕ, _+_}
 use mathlib.Core.Path.{_≡_, _∙_, sym, ap}
 use lib.ListN.{length}
-use Rattle.sheet.specs.declared.line.Line.{Line}
+use mathlib.Core.List.{List}
 use Rattle.sheet.specs.Sheet.{Grammar, Playing, Timing, unitIn, barOf, inBar}
 use Rattle.sheet.specs.Reading.{four, roomRefusal, inOnsets, refusal}
-use Rattle.sheet.specs.Held.{micros}
+use Rattle.sheet.specs.Held.{LineHeld, micros}
 use Rattle.sheet.specs.SoFar.{GoodSoFar}
 use Rattle.sheet.specs.Laws.{moment-passed, room-passed}
 use Rattle.playing.specs.Contracts.{timingIn, latestOf}
-use Rattle.playing.proofs.OnsetSteps.{other-line, stopped, by-form, by-moment, by-room, moment-is, here-is, run-more}
+use Rattle.playing.proofs.OnsetSteps.{other-line, step-stopped, by-form, by-moment, by-room, moment-is, here-is, run-more}
 use Rattle.playing.proofs.onset.onset_step.Statement.{statement}
 use Rattle.playing.proofs.onset.onset_step.Tie as tie
 
--- where the room has been asked for: the call, and its line, timing and unit
+-- where the room has been asked for: the call, and its timing and unit
 abbrev start-of : tie.After-room-refusal → tie.Start
 start-of c =
     let at-form = c .before .before .before .before .before .before .before .before in
     at-form .before .before .before
 
-abbrev line-of : tie.After-room-refusal → Line
-line-of c = start-of c .args .t5
-
 abbrev timing-of : tie.After-room-refusal → Timing
 timing-of c = timingIn (start-of c .args .timing)
 
-unit-is : (c : tie.After-room-refusal) → c .before .before .before .unit-of .result .0 ≡ unitIn (timing-of c) (four (line-of c) 1)
-unit-is c =
+unit-is : (c : tie.After-room-refusal) (b : List ℕ) → LineHeld (start-of c .args .l) b
+    → c .before .before .before .unit-of .result .0 ≡ unitIn (timing-of c) (four b 1)
+unit-is c b h =
     let at-unit = c .before .before .before in
-    at-unit .unit-of .ensures .0 ∙ ap (unitIn (timing-of c)) (at-unit .before .before .before .four-at .ensures)
+    at-unit .unit-of .ensures .0 ∙ ap (unitIn (timing-of c)) (at-unit .before .before .before .four-at .ensures b h)
 
-module _ (c : tie.After-room-refusal) (g : Grammar) (p : Playing) (last : ℕ) (good : GoodSoFar (timing-of c) p last)
+module _ (c : tie.After-room-refusal) (b : List ℕ) (h : LineHeld (start-of c .args .l) b)
+    (g : Grammar) (p : Playing) (last : ℕ) (good : GoodSoFar (timing-of c) p last)
     (eb : start-of c .args .bars ≡ p .bars) (en : start-of c .args .count ≡ length (p .onsets))
     (es : start-of c .args .latest ≡ latestOf (timing-of c) p last) where
   -- the code's count of the onsets in the bar is the playing's
-  here : c .before .run-in .result ≡ inBar (barOf (unitIn (timing-of c) (four (line-of c) 1))) (p .onsets)
+  here : c .before .run-in .result ≡ inBar (barOf (unitIn (timing-of c) (four b 1))) (p .onsets)
   here =
       let at-unit = c .before .before .before in
       let at-moment = at-unit .before .before in
-      here-is g (timing-of c) p last (line-of c) good (start-of c .args .bars) (start-of c .args .count) (start-of c .args .latest) eb en
+      here-is g (timing-of c) p last b good (start-of c .args .bars) (start-of c .args .count) (start-of c .args .latest) eb en
       es _ _ _
-      (at-moment .before .four-at .ensures) (sym (at-moment .moment-refusal .ensures) ∙ at-unit .before .if3 .left)
+      (at-moment .before .four-at .ensures b h) (sym (at-moment .moment-refusal .ensures) ∙ at-unit .before .if3 .left)
       (at-unit .unit-of .ensures .0) (c .before .run-in .ensures)
 
   -- so the room decides
-  decided : refusal (inOnsets g (timing-of c) p last) (line-of c) ≡ c .room-refusal .result
+  decided : refusal (inOnsets g (timing-of c) p last) b ≡ c .room-refusal .result
   decided =
       let at-moment = c .before .before .before .before .before in
       let at-form = at-moment .before .before .before in
-      by-room g (timing-of c) p last (line-of c) (at-form .before .if1 .left)
-      (sym (at-form .form-refusal .ensures) ∙ at-moment .before .before .if2 .left)
-      (sym (moment-is g (timing-of c) p last (line-of c) good _ _ _ eb en es _ (at-moment .before .four-at .ensures))
+      by-room g (timing-of c) p last b (sym (h .kind) ∙ at-form .before .if1 .left)
+      (sym (at-form .form-refusal .ensures b h) ∙ at-moment .before .before .if2 .left)
+      (sym (moment-is g (timing-of c) p last b good _ _ _ eb en es _ (at-moment .before .four-at .ensures b h))
       ∙ sym (at-moment .moment-refusal .ensures) ∙ c .before .before .before .before .if3 .left)
       ∙ sym (c .room-refusal .ensures ∙ (λ j. roomRefusal (en j) (here j)))
-
-element-copy-out-if1 : tie.Need-element-copy-out-if1
-element-copy-out-if1 c = search needs
 
 refused-step-requires : tie.Need-refused-step-requires
 refused-step-requires c κs = search needs
 
 -- a line of another kind
 returns : tie.Need-returns
-returns c g p last good eb en es =
+returns c b h g p last good eb en es =
     let at-if1 = c .before in
-    let at-start = at-if1 .before .before in
-    stopped g _ p last (at-start .args .t5) (c .refused-step .result) 3 (c .refused-step .ensures)
-    (other-line g _ p last (at-start .args .t5) (at-if1 .if1 .taken)) (λ z. omega arith)
+    step-stopped g _ p last b (c .refused-step .result) 3 (c .refused-step .ensures)
+    (other-line g _ p last b (λ z. at-if1 .if1 .taken (h .kind ∙ z))) (λ z. omega arith)
 
 form-refusal-requires : tie.Need-form-refusal-requires
 form-refusal-requires c κs = search needs
@@ -80,15 +75,14 @@ refused-step-requires-2 c κs = search needs
 
 -- refused by its form
 returns-2 : tie.Need-returns-2
-returns-2 c g p last good eb en es =
+returns-2 c b h g p last good eb en es =
     let at-if2 = c .before in
     let at-form = at-if2 .before in
     let at-if1 = at-form .before in
-    let l = at-if1 .before .before .args .t5 in
-    let form = at-form .form-refusal .ensures in
+    let form = at-form .form-refusal .ensures b h in
     let f = at-if2 .if2 .taken in
-    stopped g _ p last l (c .refused-step2 .result) _ (c .refused-step2 .ensures)
-    (by-form g _ p last l (at-if1 .if1 .left) (λ z. f (form ∙ z)) ∙ sym form) f
+    step-stopped g _ p last b (c .refused-step2 .result) _ (c .refused-step2 .ensures)
+    (by-form g _ p last b (sym (h .kind) ∙ at-if1 .if1 .left) (λ z. f (form ∙ z)) ∙ sym form) f
 
 four-at-requires : tie.Need-four-at-requires
 four-at-requires c κs = search needs
@@ -101,19 +95,18 @@ refused-step-requires-3 c κs = search needs
 
 -- refused by its moment
 returns-3 : tie.Need-returns-3
-returns-3 c g p last good eb en es =
+returns-3 c b h g p last good eb en es =
     let at-if3 = c .before in
     let at-moment = at-if3 .before in
     let at-four = at-moment .before in
     let at-if2 = at-four .before in
     let at-form = at-if2 .before in
     let at-if1 = at-form .before in
-    let l = at-if1 .before .before .args .t5 in
-    let moment = at-moment .moment-refusal .ensures ∙ moment-is g _ p last l good _ _ _ eb en es _ (at-four .four-at .ensures) in
+    let moment = at-moment .moment-refusal .ensures ∙ moment-is g _ p last b good _ _ _ eb en es _ (at-four .four-at .ensures b h) in
     let f = at-if3 .if3 .taken in
-    stopped g _ p last l (c .refused-step3 .result) _ (c .refused-step3 .ensures)
-    (by-moment g _ p last l (at-if1 .if1 .left) (sym (at-form .form-refusal .ensures) ∙ at-if2 .if2 .left) (λ z. f (moment ∙ z)) ∙ sym
-    moment) f
+    let formed = sym (at-form .form-refusal .ensures b h) ∙ at-if2 .if2 .left in
+    step-stopped g _ p last b (c .refused-step3 .result) _ (c .refused-step3 .ensures)
+    (by-moment g _ p last b (sym (h .kind) ∙ at-if1 .if1 .left) formed (λ z. f (moment ∙ z)) ∙ sym moment) f
 
 unit-of-requires : tie.Need-unit-of-requires
 unit-of-requires c κs =
@@ -134,30 +127,30 @@ refused-step-requires-4 c κs = search needs
 
 -- refused for want of room
 returns-4 : tie.Need-returns-4
-returns-4 c g p last good eb en es =
+returns-4 c b h g p last good eb en es =
     let at-if4 = c .before in
     let at-room = at-if4 .before in
-    stopped g _ p last (line-of at-room) (c .refused-step4 .result) _ (c .refused-step4 .ensures) (decided at-room g p last good eb en es)
+    step-stopped g _ p last b (c .refused-step4 .result) _ (c .refused-step4 .ensures) (decided at-room b h g p last good eb en es)
     (at-if4 .if4 .taken)
 
-add-t20 : tie.Need-add-t20
-add-t20 c =
+add-t15 : tie.Need-add-t15
+add-t15 c =
     let at-room = c .before in
     let few = room-passed _ _ (sym (at-room .room-refusal .ensures) ∙ c .if4 .left) .1 in
     record { fits = omega (arith, few) }
 
 -- taken
 returns-5 : tie.Need-returns-5
-returns-5 c g p last good eb en es =
+returns-5 c b h g p last good eb en es =
     let at-room = c .before in
     let at-four = at-room .before .before .before .before .before .before in
     record {
-      number = sym (decided at-room g p last good eb en es ∙ c .if4 .left);
-      unit = λ z. unit-is at-room;
+      number = sym (decided at-room b h g p last good eb en es ∙ c .if4 .left);
+      unit = λ z. unit-is at-room b h;
       latest = λ z j. record {
-        time = micros (at-four .four-at .ensures j);
-        bar = barOf (unit-is at-room j);
-        run = (ap (λ (n : ℕ). n + 1) (here at-room g p last good eb en es) ∙ sym (run-more (timing-of at-room) p (line-of at-room))) j;
+        time = micros (at-four .four-at .ensures b h j);
+        bar = barOf (unit-is at-room b h j);
+        run = (ap (λ (n : ℕ). n + 1) (here at-room b h g p last good eb en es) ∙ sym (run-more (timing-of at-room) p b)) j;
       };
     }
 
@@ -165,7 +158,6 @@ pub onset-step-spec : {M : Type 1} → statement M
 onset-step-spec =
     tie.close
     (tie.spec
-    element-copy-out-if1
     refused-step-requires
     returns
     form-refusal-requires
@@ -180,5 +172,5 @@ onset-step-spec =
     room-refusal-requires
     refused-step-requires-4
     returns-4
-    add-t20
+    add-t15
     returns-5)
