@@ -12,7 +12,7 @@
 --   badLine text                       the first bad line of a text, 0 for none (hextext/specs/Text)
 --   lineRead text at, lineBytes        the line that starts at a place as one loop reads it (hextext/specs/Packed); the bytes of a text's
 --                                      first line (hextext/specs/Text)
---   LineHeld l b                       l holds the line b: its kind, its count, its first eight bytes and its last eight (sheet/specs/Held)
+--   LineHeld l b                       l holds the line b: its kind, its count, its first eight bytes where it has more, its last eight (sheet/specs/Held)
 use Prim.Native.Nat.{ℕ, _+_, _≤_, _<_}
 use mathlib.Core.Path.{_≡_, refl, sym, ap, _∙_}
 use mathlib.Core.List.{List}
@@ -26,7 +26,6 @@ use Rattle.sheet.specs.Sheet.{Sheet}
 use Rattle.sheet.specs.Accepted.{Accepts}
 use Rattle.sheet.specs.Held.{LineHeld, readingOf, Reads}
 use Rattle.sheet.specs.Laws.{ill-formed}
-use Rattle.sheet.specs.Reading.{nothing}
 use Rattle.sheet.specs.Rest.{rest-held}
 use Rattle.sheet.specs.Multiplier.{withMultiplier, AlikeTexts, slid}
 use Rattle.sheet.specs.MultiplierLaws.{texts-alike, slid-accepted}
@@ -109,4 +108,4 @@ read-bad-first text r e fits bad =
 -- "Let its count and its fields come out of one loop": what the loop gives of a line that is well formed, of any length.
 pub line-fields : (text : List ℕ) (at : ℕ) → at < length text → (l : Line) → l ≡ lineRead text at → (l .count ≡ 0 → ⊥)
     → LineHeld l (lineBytes (drop at text))
-line-fields text at inside l is filled = rest-held text at inside l is nothing 0 filled
+line-fields text at inside l is filled = rest-held text at inside l is filled

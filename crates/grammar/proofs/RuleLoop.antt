@@ -14,7 +14,7 @@ use Rattle.sheet.specs.declared.table.RuleCell.{RuleCell}
 use Rattle.sheet.specs.declared.table.GrammarTable.{GrammarTable}
 use Rattle.grammar.specs.declared.Rules.{Rules}
 use Rattle.sheet.specs.Sheet.{Grammar}
-use Rattle.sheet.specs.Reading.{demand, byte, bytesFrom, ruleRefusal, ruleOf, withRule, nothing, inRules, rulesRefusal, refusal, after}
+use Rattle.sheet.specs.Reading.{demand, byte, bytesFrom, ruleRefusal, ruleOf, withRule, inRules, rulesRefusal, refusal, after}
 use Rattle.sheet.specs.Rest.{readRest, stopped, rest-end, rest-bad, rest-stop, rest-held, rest-on}
 use Rattle.sheet.specs.Held.{LineHeld, grammarTable, partsOf, childCells}
 use Rattle.sheet.specs.Good.{GoodRules}
@@ -23,6 +23,14 @@ use Rattle.sheet.specs.Laws.{demand-zero, end-in-rules}
 use Rattle.sheet.specs.GoodLaws.{line-small, good-after}
 use Rattle.grammar.specs.Contracts.{cellOf, arityOf, RulesDone, RulesRead}
 use Rattle.grammar.proofs.Tables.{cell-is, parts-are, room, rule-stored}
+
+-- a line that adds a rule has room, and is short, by the code's own numbers
+pub rule-fits : (t : List ℕ) (at : ℕ) (inside : at < length t) (l : Line) (is : l ≡ lineRead t at) (filled : l .count ≡ 0 → ⊥)
+    (q n k : ℕ) → k ≡ ruleRefusal q n (lineBytes (drop at t)) → k ≡ 0
+    → (n < 64) × (arityOf (lineBytes (drop at t)) ≤ 8) × (l .count ≤ 13)
+rule-fits t at inside l is filled q n k e z =
+    let r = room (lineBytes (drop at t)) q n (sym e ∙ z) in
+    (r .0, r .1, omega (arith, r .2, rest-held t at inside l is filled .count))
 
 -- of the lines from line n, at place `at`, on, those before line n′, at place at′, have been read as rules behind those of h
 pub record RulesSoFar (t : List ℕ) (at n : ℕ) (h : Grammar) (table : GrammarTable) (at′ n′ : ℕ) : Type 0 where
@@ -58,8 +66,8 @@ module _ {t : List ℕ} {at n : ℕ} {h : Grammar} {table : GrammarTable} {at′
     rules-bad pos e k = so .rest ∙ rest-bad t at′ inside l is (inRules g) n′ pos e k
 
     module _ (filled : l .count ≡ 0 → ⊥) where
-      pub line-held : LineHeld l b
-      line-held = rest-held t at′ inside l is (inRules g) n′ filled
+      line-held : LineHeld l b
+      line-held = rest-held t at′ inside l is filled
 
       count-is : table .count ≡ length (g .rules)
       unfolding grammarTable
@@ -82,12 +90,12 @@ module _ {t : List ℕ} {at n : ℕ} {h : Grammar} {table : GrammarTable} {at′
 
         pub rules-early : (k ≡ 0 → ⊥) → Stops k
         rules-early f =
-            let g : demand (ltb 0 (table .count)) 3 0 ≡ 0 → ⊥ = λ z. f (number ∙ z) in
-            stop k (number ∙ three (table .count) g ∙ early (table .count) count-is g) f
+            let refused : demand (ltb 0 (table .count)) 3 0 ≡ 0 → ⊥ = λ z. f (number ∙ z) in
+            stop k (number ∙ three (table .count) refused ∙ early (table .count) count-is refused) f
 
         -- and some do
         pub rules-done : k ≡ 0 → n′ ≤ at′ + 1 → 0 < n′
-            → RulesDone t at n h (record { number = k; line = n′; at = at′; last = l; grammar = table })
+            → RulesDone t at n h (record { number = k; line = n′; at = at′; end = l; grammar = table })
         rules-done z line pos =
             record {
               grammar = g;
@@ -99,7 +107,7 @@ module _ {t : List ℕ} {at n : ℕ} {h : Grammar} {table : GrammarTable} {at′
               inside = inside;
               line = line;
               numbered = pos;
-              last = is;
+              end = is;
               filled = omega (arith, filled);
               kind = kind;
               rest = so .rest;
@@ -123,11 +131,6 @@ module _ {t : List ℕ} {at n : ℕ} {h : Grammar} {table : GrammarTable} {at′
 
         -- or taken
         module _ (z : k ≡ 0) where
-          pub rule-room : (table .count < 64) × (arityOf b ≤ 8) × (l .count ≤ 13)
-          rule-room =
-              let r = room b (table .nonterminals) (table .count) (sym number ∙ z) in
-              (r .0, r .1, omega (arith, r .2, line-held .count))
-
           met : refusal (inRules g) b ≡ 0
           met = sym number-is ∙ z
 
@@ -157,7 +160,7 @@ module _ {t : List ℕ} {at n : ℕ} {h : Grammar} {table : GrammarTable} {at′
               record {
                 grammar = withRule g (ruleOf b);
                 good = subst GoodProgress next (good-after (inRules g) b (line-small b (line-held .small)) (so .good) met);
-                table-is = et ∙ rule-stored g table (ruleOf b) cell children e (rule-room .0) (ec ∙ cell-is b) parts;
+                table-is = et ∙ rule-stored g table (ruleOf b) cell children e (rule-fits t at′ inside l is filled (table .nonterminals) (table .count) k number z .0) (ec ∙ cell-is b) parts;
                 rest =
                     so .rest ∙ rest-on t at′ inside l is (inRules g) n′ filled met
                     ∙ ap (λ x. readRest x (n′ + 1) (drop (l .next) t)) next;
@@ -167,14 +170,3 @@ module _ {t : List ℕ} {at n : ℕ} {h : Grammar} {table : GrammarTable} {at′
 pub rules-refused : {t : List ℕ} {at n : ℕ} {h : Grammar} (r : Rules) → (r .number ≡ 0 → ⊥) → r .line ≤ r .at + 1
     → readRest (inRules h) n (drop at t) ≡ stopped (r .number) (r .line) (drop (r .at) t) → RulesRead t at n h r
 rules-refused r f place e = record { stop = λ _. e; place = λ _. place; done = λ z. absurd (f z) }
-
--- of the code's own numbers: what is held of a line, and that a line that adds a rule has room and is short
-module _ (t : List ℕ) (at : ℕ) (inside : at < length t) (l : Line) (is : l ≡ lineRead t at) (filled : l .count ≡ 0 → ⊥) where
-  pub held-at : LineHeld l (lineBytes (drop at t))
-  held-at = rest-held t at inside l is nothing 0 filled
-
-  pub rule-fits : (q n k : ℕ) → k ≡ ruleRefusal q n (lineBytes (drop at t)) → k ≡ 0
-      → (n < 64) × (arityOf (lineBytes (drop at t)) ≤ 8) × (l .count ≤ 13)
-  rule-fits q n k e z =
-      let r = room (lineBytes (drop at t)) q n (sym e ∙ z) in
-      (r .0, r .1, omega (arith, r .2, held-at .count))

@@ -39,9 +39,9 @@ pub record RulesDone (t : List ℕ) (at n : ℕ) (h : Grammar) (r : Rules) : Typ
   pub inside : r .at < length t
   pub line : r .line ≤ r .at + 1
   pub numbered : 0 < r .line
-  pub last : r .last ≡ lineRead t (r .at)
-  pub filled : 0 < r .last .count
-  pub kind : r .last .kind ≡ 0x45
+  pub end : r .end ≡ lineRead t (r .at)
+  pub filled : 0 < r .end .count
+  pub kind : r .end .kind ≡ 0x45
   pub rest : readRest (inRules h) n (drop at t) ≡ readRest (inRules grammar) (r .line) (drop (r .at) t)
 
 -- reading the rules from line n, at place `at`, on

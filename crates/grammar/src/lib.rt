@@ -36,7 +36,7 @@ pub struct Rules {
     pub number: u8,
     pub line: usize,
     pub at: usize,
-    pub last: Line,
+    pub end: Line,
     pub grammar: GrammarTable,
 }
 
@@ -125,14 +125,14 @@ fn put_parts(children: &mut Children, n: usize, k: usize, l: Line)
 }
 
 // Where reading the rules ends.
-fn ended(number: u8, line: usize, at: usize, last: Line, grammar: GrammarTable) -> Rules
-    ensures { λ r. ⌜ r ≡ record { number = number; line = line; at = at; last = last; grammar = grammar } ⌝ }
+fn ended(number: u8, line: usize, at: usize, end: Line, grammar: GrammarTable) -> Rules
+    ensures { λ r. ⌜ r ≡ record { number = number; line = line; at = at; end = end; grammar = grammar } ⌝ }
 {
     Rules {
         number,
         line,
         at,
-        last,
+        end,
         grammar,
     }
 }

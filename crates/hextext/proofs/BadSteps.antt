@@ -8,8 +8,8 @@ use lib.ListN.{length, drop, length-drop, drop-of-length-le}
 use lib.Seq.{drop-drop}
 use Rattle.hextext.specs.declared.line.Line.{Line}
 use Rattle.hextext.specs.Text.{first, badFrom, lineSize}
-use Rattle.hextext.specs.Packed.{packed, lineRead}
-use Rattle.hextext.specs.PackedLaws.{line-bad, line-good}
+use Rattle.hextext.specs.Packed.{lineRead}
+use Rattle.hextext.specs.PackedLaws.{line-bad, line-good, line-next}
 use Rattle.hextext.specs.OnePass.{bad-on, bad-here}
 
 -- no line is left
@@ -24,15 +24,8 @@ module _ (t : List ℕ) (i : ℕ) (l : Line) (is : l ≡ lineRead t i) where
       bad-here n false (drop i t) (λ _. omega (arith, length-drop i t)) (line-bad t i (sym (ap (λ (x : Line). x .count) is) ∙ e))
 
   -- it is not, and the lines behind it start where it says
-  module _ (some : l .count ≡ 0 → ⊥) where
-    good : lineRead t i .count ≡ 0 → ⊥
-    good e = some (ap (λ (x : Line). x .count) is ∙ e)
-
-    pub next-at : l .next ≡ i + lineSize (drop i t)
-    unfolding packed
-    next-at = ap (λ (x : Line). x .next) (is ∙ line-good t i good .1)
-
-    pub bad-next : (n : ℕ) → badFrom n first (drop i t) ≡ badFrom (n + 1) first (drop (l .next) t)
-    bad-next n =
-        bad-on n false (drop i t) (line-good t i good .0)
-        ∙ ap (badFrom (n + 1) first) (drop-drop (lineSize (drop i t)) i t ∙ ap (λ (k : ℕ). drop k t) (sym next-at))
+  pub bad-next : (l .count ≡ 0 → ⊥) → (n : ℕ) → badFrom n first (drop i t) ≡ badFrom (n + 1) first (drop (l .next) t)
+  bad-next filled n =
+      bad-on n false (drop i t) (line-good t i (λ e. filled (ap (λ (x : Line). x .count) is ∙ e)) .0)
+      ∙ ap (badFrom (n + 1) first)
+      (drop-drop (lineSize (drop i t)) i t ∙ ap (λ (k : ℕ). drop k t) (sym (line-next t i l is filled)))

@@ -37,10 +37,10 @@ by-digit {P} b f g = go (isDigit b) refl
     go false e = g e
 
 -- a number below 256 says that both bytes of a pair are digits, and is the byte that they spell
-pub pair-digits : (h l : ℕ) → digitAt 16 h + digitAt 1 l < 256
+pub both-digits : (h l : ℕ) → digitAt 16 h + digitAt 1 l < 256
     → (isDigit h ≡ true) × (isDigit l ≡ true) × (digitAt 16 h + digitAt 1 l ≡ pair h l)
 unfolding pair
-pair-digits h l k =
+both-digits h l k =
     by-digit h
     (λ d. by-digit l
     (λ e. (d, e, omega (arith, digit-is 16 h d, digit-is 1 l e)))

@@ -13,11 +13,11 @@ use Rattle.slices.specs.Lookup.{drop-step}
 use Rattle.slices.specs.Test.{and-both}
 use Rattle.hextext.specs.declared.line.Line.{Line}
 use Rattle.hextext.specs.Text.{isDigit, lineBytes, lineSize}
-use Rattle.hextext.specs.Packed.{digitAt, formedFrom, formed, packed, noLine, orNone, lineRead, begun, closes, closedLine}
+use Rattle.hextext.specs.Packed.{digitAt, formedFrom, formed, packed, noLine, orNone, lineRead, hasByte, closes, closedLine}
 use Rattle.hextext.specs.Laws.{bytes-closed, size-closed}
 use Rattle.hextext.specs.OnePass.{form-close, form-pair, no-digit-10}
 use Rattle.hextext.proofs.LineSteps.{Ahead, ahead-none, ahead-all, ahead-pair, two-steps}
-use Rattle.hextext.proofs.DigitSteps.{pair-digits}
+use Rattle.hextext.proofs.DigitSteps.{both-digits}
 
 -- ---- the end of a line
 
@@ -27,14 +27,14 @@ module _ (bs : List ℕ) (i : ℕ) (t : List ℕ) where
   unfolding closedLine
   closed-empty e = go bs e
     where
-      go : (cs : List ℕ) → length cs ≡ 0 → orNone (begun cs && closes t) (packed cs (i + 1)) ≡ noLine
+      go : (cs : List ℕ) → length cs ≡ 0 → orNone (hasByte cs && closes t) (packed cs (i + 1)) ≡ noLine
       go [] k = refl
       go (c ∷ cs) k = let f : ⊥ = omega arith in absurd f
 
   -- nothing closes it
   pub closed-open : closes t ≡ false → closedLine bs i t ≡ noLine
   unfolding closedLine
-  closed-open e = rw e (go (begun bs))
+  closed-open e = rw e (go (hasByte bs))
     where
       go : (x : Bool) → orNone (x && false) (packed bs (i + 1)) ≡ noLine
       go true = refl
@@ -45,7 +45,7 @@ module _ (bs : List ℕ) (i : ℕ) (t : List ℕ) where
   unfolding closedLine
   closed-line f e = rw e (go bs f)
     where
-      go : (cs : List ℕ) → (length cs ≡ 0 → ⊥) → orNone (begun cs && true) (packed bs (i + 1)) ≡ packed bs (i + 1)
+      go : (cs : List ℕ) → (length cs ≡ 0 → ⊥) → orNone (hasByte cs && true) (packed bs (i + 1)) ≡ packed bs (i + 1)
       go [] k = absurd (k refl)
       go (c ∷ cs) k = refl
 
@@ -63,16 +63,16 @@ pub record Packs (text : List ℕ) (at : ℕ) (l : Line) (i : ℕ) : Type 0 wher
   pub bs : List ℕ
   pub is : l ≡ packed bs 0
   pub ahead : Ahead text at bs i
-  pub form : formed (drop at text) ≡ formedFrom (begun bs) (drop i text)
+  pub form : formed (drop at text) ≡ formedFrom (hasByte bs) (drop i text)
 
 -- none
 pub packs-none : (text : List ℕ) (at : ℕ) → Packs text at noLine at
 unfolding packed
 packs-none text at = record { bs = []; is = refl; ahead = ahead-none text at; form = refl }
 
-begun-more : (bs : List ℕ) (b : ℕ) → begun (bs ++ (b ∷ [])) ≡ true
-begun-more [] b = refl
-begun-more (c ∷ bs) b = refl
+byte-more : (bs : List ℕ) (b : ℕ) → hasByte (bs ++ (b ∷ [])) ≡ true
+byte-more [] b = refl
+byte-more (c ∷ bs) b = refl
 
 -- no pair is next: what is left closes the line, or it is not well formed
 abbrev pub NoPair : List ℕ → Type 0
@@ -121,13 +121,13 @@ module _ {text : List ℕ} {at : ℕ} {l : Line} {i : ℕ} (p : Packs text at l 
   -- the line ends
   pub packs-end : NoPair (drop i text) → (r : Line) → r ≡ closedLine (p .bs) i (drop i text) → r ≡ lineRead text at
   unfolding closedLine lineRead
-  packs-end none r e = e ∙ go (begun (p .bs) && closes (drop i text)) refl (p .form ∙ none (begun (p .bs)))
+  packs-end none r e = e ∙ go (hasByte (p .bs) && closes (drop i text)) refl (p .form ∙ none (hasByte (p .bs)))
     where
-      go : (x : Bool) → (begun (p .bs) && closes (drop i text)) ≡ x → formed (drop at text) ≡ (begun (p .bs) && closes (drop i text))
-          → orNone (begun (p .bs) && closes (drop i text)) (packed (p .bs) (i + 1))
+      go : (x : Bool) → (hasByte (p .bs) && closes (drop i text)) ≡ x → formed (drop at text) ≡ (hasByte (p .bs) && closes (drop i text))
+          → orNone (hasByte (p .bs) && closes (drop i text)) (packed (p .bs) (i + 1))
           ≡ orNone (formed (drop at text)) (packed (lineBytes (drop at text)) (at + lineSize (drop at text)))
       go true z f =
-          let c = closing (drop i text) (and-both (begun (p .bs)) (closes (drop i text)) z .1) in
+          let c = closing (drop i text) (and-both (hasByte (p .bs)) (closes (drop i text)) z .1) in
           let b = ahead-all (p .ahead) (c .0) in
           let s : i + 1 ≡ at + lineSize (drop at text) = omega (arith, c .1, p .ahead .size) in
           rw (f, z) (λ j. packed (sym b j) (s j))
@@ -137,7 +137,7 @@ module _ {text : List ℕ} {at : ℕ} {l : Line} {i : ℕ} (p : Packs text at l 
   pub packs-pair : i + 1 < length text → (b : ℕ) → digitAt 16 (getD text i 0) + digitAt 1 (getD text (i + 1) 0) ≡ b → b < 256
       → (m : Line) → m ≡ packed (p .bs ++ (b ∷ [])) 0 → (k : ℕ) → k ≡ i + 1 + 1 → Packs text at m k
   packs-pair h b e small m is k ek =
-      let q = pair-digits (getD text i 0) (getD text (i + 1) 0) (omega arith) in
+      let q = both-digits (getD text i 0) (getD text (i + 1) 0) (omega arith) in
       let f = no-digit-10 (getD text i 0) (q .0) in
       let rest = drop (i + 1 + 1) text in
       rw ek (record {
@@ -145,7 +145,7 @@ module _ {text : List ℕ} {at : ℕ} {l : Line} {i : ℕ} (p : Packs text at l 
         is = is;
         ahead = ahead-pair (p .ahead) h f b (sym e ∙ q .2);
         form =
-            p .form ∙ ap (formedFrom (begun (p .bs))) (two-steps text i h)
-            ∙ form-pair (begun (p .bs)) (getD text i 0) (getD text (i + 1) 0) rest f
-            ∙ rw (q .0, q .1, begun-more (p .bs) b) refl;
+            p .form ∙ ap (formedFrom (hasByte (p .bs))) (two-steps text i h)
+            ∙ form-pair (hasByte (p .bs)) (getD text i 0) (getD text (i + 1) 0) rest f
+            ∙ rw (q .0, q .1, byte-more (p .bs) b) refl;
       })

@@ -38,12 +38,12 @@ unfolding isDigit
 no-digit-low b h = simp (lt-leb 48 b h, lt-leb 65 b (omega arith))
 
 -- a pair spells a byte
-pub pair-small : (h l : ℕ) → pair h l < 256
+pair-small : (h l : ℕ) → pair h l < 256
 unfolding pair
 pair-small h l = omega (arith, value-small h, value-small l)
 
 -- the choice that `lineBytes`, `lineSize` and `lines` make by whether the first byte is 0A
-abbrev choice : {A : Type 0} → A → A → Bool → A
+abbrev pub choice : {A : Type 0} → A → A → Bool → A
 choice a b x = elim x [ true ↦ a | false ↦ b ]
 
 -- a first byte 0A closes a line: it has no bytes, takes one of the text, and the lines behind it start at the next

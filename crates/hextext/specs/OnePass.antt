@@ -8,19 +8,14 @@ use native.Mathlib.Decide.{ℕ-discrete}
 use native.Mathlib.Omega.{arith}
 use lib.ListN.{length, drop}
 use lib.Seq.{drop-drop}
-use lib.Dec.{eqb}
 use borrow.Author.Tests.{eq-eqb, ne-eqb}
 use Rattle.slices.specs.Test.{and-both}
 use Rattle.hextext.specs.Text.{isDigit, Place, first, odd, even, badFrom, lineBytes, lineSize, lines}
 use Rattle.hextext.specs.Packed.{formedFrom, formed}
-use Rattle.hextext.specs.Laws.{size-closed, size-pair, lines-first, no-digit-low}
+use Rattle.hextext.specs.Laws.{choice, size-closed, size-pair, lines-first, no-digit-low}
 use Rattle.hextext.specs.Formed.{by-step, at-digit, place, after-place}
 
 -- ---- the form of a line, byte by byte
-
--- the choice that `formedFrom` makes by whether the first byte is 0A
-abbrev choice : (begun pair x : Bool) → Bool
-choice c p x = elim x [ true ↦ c | false ↦ p ]
 
 module _ (c : Bool) (h : ℕ) where
   -- byte 0A closes a line that has a pair
@@ -34,7 +29,7 @@ module _ (c : Bool) (h : ℕ) where
   form-close (l ∷ t) e = ap (choice c ((isDigit h && isDigit l) && formedFrom true t)) (eq-eqb h 10 e)
 
   -- no other last byte does
-  pub form-last : (h ≡ 10 → ⊥) → formedFrom c (h ∷ []) ≡ false
+  form-last : (h ≡ 10 → ⊥) → formedFrom c (h ∷ []) ≡ false
   unfolding formedFrom
   form-last f = rw (ne-eqb h 10 f) (go c)
     where

@@ -24,15 +24,20 @@ formedFrom begun [] = false
 formedFrom begun (h ∷ []) = begun && eqb h 10
 formedFrom begun (h ∷ l ∷ t) = elim (eqb h 10) [ true ↦ begun | false ↦ (isDigit h && isDigit l) && formedFrom true t ]
 
+-- the same from its first byte on
 abbrev pub formed : List ℕ → Bool
 formed t = formedFrom false t
 
--- the last eight bytes of a line, or all where it has fewer, as one number, big-endian: x is the number of those before. A byte more
--- shifts the others, and what passes eight bytes is dropped
+-- a number of eight bytes with one byte more behind them: what passes eight bytes is dropped
+abbrev pub withByte : (x b : ℕ) → ℕ
+withByte x b = x % 72057594037927936 * 256 + b
+
+-- the last eight bytes of a line as one number, big-endian, where x is the number of those before
 unfoldable pub tailFrom : (x : ℕ) → List ℕ → ℕ
 tailFrom x [] = x
-tailFrom x (b ∷ bs) = tailFrom (x % 72057594037927936 * 256 + b) bs
+tailFrom x (b ∷ bs) = tailFrom (withByte x b) bs
 
+-- the same of a whole line, all of it where it has fewer
 abbrev pub tailOf : List ℕ → ℕ
 tailOf bs = tailFrom 0 bs
 
@@ -60,11 +65,12 @@ unfoldable pub lineRead : (text : List ℕ) (at : ℕ) → Line
 unfolding formedFrom packed lineBytes lineSize
 lineRead text at = orNone (formed (drop at text)) (packed (lineBytes (drop at text)) (at + lineSize (drop at text)))
 
--- a line has a byte; byte 0A is next in a text
-abbrev pub begun : List ℕ → Bool
-begun [] = false
-begun (b ∷ bs) = true
+-- a line has a byte
+abbrev pub hasByte : List ℕ → Bool
+hasByte [] = false
+hasByte (b ∷ bs) = true
 
+-- byte 0A is next in a text
 abbrev pub closes : List ℕ → Bool
 closes [] = false
 closes (b ∷ t) = eqb b 10
@@ -72,4 +78,4 @@ closes (b ∷ t) = eqb b 10
 -- a line of the bytes bs, whose pairs end at place i, where the text goes on with t
 unfoldable pub closedLine : (bs : List ℕ) (i : ℕ) (t : List ℕ) → Line
 unfolding packed
-closedLine bs i t = orNone (begun bs && closes t) (packed bs (i + 1))
+closedLine bs i t = orNone (hasByte bs && closes t) (packed bs (i + 1))

@@ -11,17 +11,19 @@ use lib.Dec.{eqb, ltb}
 use lib.Pow.{shr-shr}
 use borrow.Author.Tests.{eq-eqb, ne-eqb, lt-ltb, le-ltb}
 use Rattle.slices.specs.Every.{Every}
+use Rattle.hextext.specs.declared.line.Line.{Line}
 use Rattle.hextext.specs.Text.{lineBytes, lineSize}
-use Rattle.hextext.specs.Packed.{formedFrom, formed, tailFrom, tailOf, frontOf, packed, noLine, orNone, lineRead}
+use Rattle.hextext.specs.Packed.{formedFrom, formed, withByte, tailFrom, tailOf, frontOf, packed, noLine, orNone, lineRead}
 use Rattle.hextext.specs.Laws.{bytes-pair}
 use Rattle.hextext.specs.OnePass.{form-close}
 
 -- ---- one byte more
 
-pub tail-more : (x : ℕ) (bs : List ℕ) (b : ℕ) → tailFrom x (bs ++ (b ∷ [])) ≡ tailFrom x bs % 72057594037927936 * 256 + b
+-- in the number of the last eight
+tail-more : (x : ℕ) (bs : List ℕ) (b : ℕ) → tailFrom x (bs ++ (b ∷ [])) ≡ withByte (tailFrom x bs) b
 unfolding tailFrom
 tail-more x [] b = refl
-tail-more x (c ∷ bs) b = tail-more (x % 72057594037927936 * 256 + c) bs b
+tail-more x (c ∷ bs) b = tail-more (withByte x c) bs b
 
 -- ---- the bytes of a number
 
@@ -41,7 +43,7 @@ four-bytes : (y : ℕ) → y % 4294967296 ≡ y / 65536 % 65536 * 65536 + y % 65
 four-bytes y = omega arith
 
 -- four bytes of a number, of which the last is at place j from the end
-pub four-back : (x j : ℕ)
+four-back : (x j : ℕ)
     → x / 2 ^ (8 * j) % 4294967296
     ≡ (byteBack x (j + 3) * 256 + byteBack x (j + 2)) * 65536 + (byteBack x (j + 1) * 256 + byteBack x j)
 four-back x j =
@@ -53,7 +55,7 @@ four-back x j =
     + (two-bytes y ∙ (λ k. before-last x j 1 k % 256 * 256 + y % 256)) i)
 
 -- a byte more moves each of the others by one place, up to the eighth
-shifted : (x b j : ℕ) → b < 256 → j < 7 → byteBack (x % 72057594037927936 * 256 + b) (suc j) ≡ byteBack x j
+shifted : (x b j : ℕ) → b < 256 → j < 7 → byteBack (withByte x b) (suc j) ≡ byteBack x j
 shifted x b zero h k = omega arith
 shifted x b (suc zero) h k = omega arith
 shifted x b (suc (suc zero)) h k = omega arith
@@ -69,7 +71,7 @@ tail-past : (x : ℕ) (bs : List ℕ) (j : ℕ) → Every (λ (b : ℕ). b < 256
 unfolding tailFrom
 tail-past x [] j s h k = ap (byteBack x) (omega arith)
 tail-past x (b ∷ bs) j s h k =
-    let more = x % 72057594037927936 * 256 + b in
+    let more = withByte x b in
     let e : j - length bs ≡ suc (j - suc (length bs)) = omega arith in
     tail-past more bs j (s .1) (omega arith) k ∙ ap (byteBack more) e ∙ shifted x b (j - suc (length bs)) (s .0) (omega arith)
 
@@ -81,7 +83,7 @@ tail-byte x [] j s h k = let f : ⊥ = omega arith in absurd f
 tail-byte x (b ∷ bs) j s h k = go (decLt j (length bs)) (tail-byte more bs j (s .1))
   where
     more : ℕ
-    more = x % 72057594037927936 * 256 + b
+    more = withByte x b
 
     go : Dec (j < length bs) → (j < length bs → j < 8 → byteBack (tailFrom more bs) j ≡ getD bs (length bs - suc j) 0)
         → byteBack (tailFrom more bs) j ≡ getD (b ∷ bs) (suc (length bs) - suc j) 0
@@ -135,10 +137,12 @@ front-at bs i s h k =
 
 -- ---- a line with one byte more
 
+-- its kind
 kind-more : (bs : List ℕ) (b : ℕ) → getD (bs ++ (b ∷ [])) 0 0 ≡ cond (eqb (length bs) 0) b (getD bs 0 0)
 kind-more [] b = refl
 kind-more (c ∷ bs) b = rw (ne-eqb (length (c ∷ bs)) 0 (λ e. omega arith)) refl
 
+-- its first eight bytes
 front-more : (bs : List ℕ) (b : ℕ) → frontOf (bs ++ (b ∷ [])) ≡ cond (eqb (length bs) 8) (tailOf bs) (frontOf bs)
 unfolding frontOf
 front-more bs b = go (ℕ-discrete (length bs) 8) (decLt 8 (length bs))
@@ -156,13 +160,14 @@ front-more bs b = go (ℕ-discrete (length bs) 8) (decLt 8 (length bs))
     go (no e) (no l) =
         rw (le-ltb 8 (length (bs ++ (b ∷ []))) (omega (arith, n, e)), ne-eqb (length bs) 8 e, le-ltb 8 (length bs) (omega arith)) refl
 
+-- the line
 pub packed-more : (bs : List ℕ) (b : ℕ)
     → packed (bs ++ (b ∷ [])) 0
     ≡ record {
       kind = cond (eqb (length bs) 0) b (getD bs 0 0);
       count = length bs + 1;
       front = cond (eqb (length bs) 8) (tailOf bs) (frontOf bs);
-      tail = tailOf bs % 72057594037927936 * 256 + b;
+      tail = withByte (tailOf bs) b;
       next = 0;
     }
 unfolding packed
@@ -210,6 +215,12 @@ module _ (t : List ℕ) (i : ℕ) where
           → (formed (drop i t) ≡ true) × (lineRead t i ≡ packed (lineBytes (drop i t)) (i + lineSize (drop i t)))
       go true z = (z, ap (λ (x : Bool). orNone x (packed (lineBytes (drop i t)) (i + lineSize (drop i t)))) z)
       go false z = absurd (f (ap (λ (x : Bool). orNone x (packed (lineBytes (drop i t)) (i + lineSize (drop i t))) .count) z))
+
+-- the place behind it
+pub line-next : (t : List ℕ) (i : ℕ) (l : Line) → l ≡ lineRead t i → (l .count ≡ 0 → ⊥) → l .next ≡ i + lineSize (drop i t)
+unfolding packed
+line-next t i l is filled =
+    ap (λ (x : Line). x .next) (is ∙ line-good t i (λ e. filled (ap (λ (x : Line). x .count) is ∙ e)) .1)
 
 -- past the end of the text there is none
 pub line-none : (t : List ℕ) (i : ℕ) → length t ≤ i → lineRead t i ≡ noLine

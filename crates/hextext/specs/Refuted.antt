@@ -19,7 +19,11 @@ numbered-from-0 : badFrom 1 first (52 ∷ 71 ∷ 10 ∷ []) ≡ 0 → ⊥
 unfolding badFrom
 numbered-from-0 e = omega arith
 
--- `line_at` that does not pack a line's last byte, and one that takes an empty line as well formed
+-- `line_at` that gives a count one short, one that does not pack a line's last byte, and one that takes an empty line as well formed
+count-one-short : lineRead text 0 .count ≡ 0 → ⊥
+unfolding lineRead
+count-one-short e = omega arith
+
 last-byte-not-packed : lineRead text 0 .tail ≡ 0 → ⊥
 unfolding lineRead
 last-byte-not-packed e = omega arith

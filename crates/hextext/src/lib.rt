@@ -11,10 +11,14 @@ mod line;
 pub use field::put_field;
 pub use line::Digits;
 pub use line::Line;
+pub use line::NUMBER_BYTES;
 pub use line::bad_from;
 pub use line::digit_table;
 pub use line::line_at;
 pub use line::no_line;
+
+// The byte that closes a line.
+const CLOSE: u8 = 10;
 
 // The value of a digit 0-9 A-F.
 fn digit_value(b: u8) -> u8
@@ -47,7 +51,7 @@ pub fn next_line(text: &[u8], at: usize, line: &mut [u8]) -> Next
     while i < text.len() {
         let high = text[i];
         i += 1;
-        if high == 10 {
+        if high == CLOSE {
             return Next { count, next: i };
         }
         if text.len() <= i {
@@ -96,6 +100,6 @@ pub fn write_line(bytes: &[u8], out: &mut [u8], at: usize) -> usize
         out[k + 1] = digit_of(b % 16);
         k += 2;
     }
-    out[k] = 10;
+    out[k] = CLOSE;
     k + 1
 }

@@ -2,18 +2,24 @@
 ghost use mathlib.Core.Path.{_≡_};
 ghost use mathlib.Core.Bool.{cond};
 ghost use mathlib.Core.List.{List, [], _∷_, _++_};
-ghost use Prim.Native.Nat.{ℕ, _+_, _*_, _<_, _≤_};
+ghost use Prim.Native.Nat.{ℕ, _+_, _<_, _≤_};
 ghost use lib.ListN.{drop};
 ghost use lib.Dec.{eqb};
 ghost use Rattle.hextext.specs.Text.{first, badFrom};
 ghost use Rattle.hextext.specs.Packed.{digitAt, DigitTable, packed, noLine, lineRead, closedLine};
+use crate::CLOSE;
 use crate::digit_of;
 
-// What stands in the table of digits for a byte that is none: with it no pair is below 256.
-const NO_DIGIT: u16 = 256;
-
-// How many values a byte has.
+// How many values a byte has, and how many a digit.
 const BYTE_VALUES: usize = 256;
+
+const DIGIT_VALUES: u8 = 16;
+
+// What stands in the table of digits for a byte that is none: with it no pair is below BYTE_VALUES.
+const NO_DIGIT: u16 = BYTE_VALUES as u16;
+
+// How many bytes a number holds.
+pub const NUMBER_BYTES: usize = 8;
 
 // The value of each byte as the first digit of a pair, 16 times that of the digit, and behind these as the second. The table is made once
 // and lent, so that a digit costs one access.
@@ -28,9 +34,9 @@ pub fn digit_table() -> Digits
 {
     let mut digits = [NO_DIGIT; 2 * BYTE_VALUES];
     let mut n: u8 = 0;
-    while n < 16 {
+    while n < DIGIT_VALUES {
         let b = digit_of(n) as usize;
-        digits[b] = (n as u16) * 16;
+        digits[b] = (n as u16) * (DIGIT_VALUES as u16);
         digits[BYTE_VALUES + b] = n as u16;
         n += 1;
     }
@@ -60,6 +66,7 @@ pub fn no_line() -> Line
     }
 }
 
+// A cell of the table, in the width of a line's numbers.
 fn wide(x: u16) -> u64
     ensures { λ r. ⌜ (r ≡ x) × (r < 65536) ⌝ }
 {
@@ -71,9 +78,9 @@ fn pair_in(digits: &Digits, high: u8, low: u8) -> u64
     requires { ⌜ DigitTable (now digits) ⌝ }
     ensures { λ r. ⌜ r ≡ digitAt 16 high + digitAt 1 low ⌝ }
 {
-    let first = wide(digits[high as usize]);
-    let second = wide(digits[BYTE_VALUES + (low as usize)]);
-    first + second
+    let upper = wide(digits[high as usize]);
+    let lower = wide(digits[BYTE_VALUES + (low as usize)]);
+    upper + lower
 }
 
 // The kind of a line with one byte more.
@@ -87,7 +94,11 @@ fn kind_with(l: Line, b: u8) -> u8
 fn front_with(l: Line) -> u64
     ensures { λ r. ⌜ r ≡ cond (eqb (l .count) 8) (l .tail) (l .front) ⌝ }
 {
-    if l.count == 8 { l.tail } else { l.front }
+    if l.count == NUMBER_BYTES {
+        l.tail
+    } else {
+        l.front
+    }
 }
 
 // A line with one byte more. What the last eight bytes push out of their number is dropped.
@@ -114,7 +125,7 @@ fn closed(text: &[u8], i: usize, l: Line) -> Line
     if text.len() <= i {
         return no_line();
     }
-    if text[i] != 10 {
+    if text[i] != CLOSE {
         return no_line();
     }
     Line {
@@ -126,7 +137,7 @@ fn closed(text: &[u8], i: usize, l: Line) -> Line
     }
 }
 
-// The line that starts at place `at` of a text, two bytes a turn.
+// The line that starts at place `at` of a text, two bytes a round.
 pub fn line_at(digits: &Digits, text: &[u8], at: usize) -> Line
     requires { ⌜ DigitTable (now digits) ⌝ }
     ensures { λ r. ⌜ r ≡ lineRead (now (text .entry)) at ⌝ }
@@ -139,7 +150,7 @@ pub fn line_at(digits: &Digits, text: &[u8], at: usize) -> Line
     let mut i = at;
     while i < last {
         let b = pair_in(digits, text[i], text[i + 1]);
-        if 255 < b {
+        if (BYTE_VALUES as u64) <= b {
             return closed(text, i, l);
         }
         let m = with_byte(l, b as u8);

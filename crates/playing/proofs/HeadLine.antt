@@ -1,6 +1,6 @@
 -- The `45` line behind a grammar with a rule: it is refused, or the onsets follow. Assumes nothing.
 use Prim.Native.Nat.{ℕ, _+_, _<_, _≤_}
-use mathlib.Core.Path.{_≡_, sym, ap, subst, _∙_}
+use mathlib.Core.Path.{_≡_, sym, subst, _∙_}
 use mathlib.Core.List.{List}
 use native.Mathlib.Omega.{arith}
 use lib.ListN.{length, drop}
@@ -10,7 +10,7 @@ use Rattle.hextext.specs.Text.{lineBytes}
 use Rattle.hextext.specs.Packed.{lineRead}
 use Rattle.playing.specs.declared.Take.{Take}
 use Rattle.sheet.specs.Sheet.{Grammar, Timing}
-use Rattle.sheet.specs.Reading.{byte, four, playingRefusal, playingOf, timingOf, nothing, inRules, inOnsets, rulesRefusal, refusal, after}
+use Rattle.sheet.specs.Reading.{byte, four, playingRefusal, playingOf, timingOf, inRules, inOnsets, rulesRefusal, refusal, after}
 use Rattle.sheet.specs.Rest.{readRest, stopped, rest-stop, rest-held, rest-on}
 use Rattle.sheet.specs.Held.{LineHeld, noPlaying}
 use Rattle.sheet.specs.SoFar.{GoodSoFar}
@@ -33,7 +33,7 @@ module _ (t : List ℕ) (at : ℕ) (inside : at < length t) (l : Line) (is : l �
 
   -- its fields
   pub head-held : LineHeld l b
-  head-held = rest-held t at inside l is nothing 0 (λ z. omega arith)
+  head-held = rest-held t at inside l is (λ z. omega arith)
 
   module _ (n : ℕ) (g : Grammar) (some : 1 ≤ length (g .rules)) (kind : l .kind ≡ 0x45) where
     kind-is : byte b 0 ≡ 0x45

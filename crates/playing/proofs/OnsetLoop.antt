@@ -10,14 +10,15 @@ use Rattle.hextext.specs.declared.line.Line.{Line}
 use Rattle.hextext.specs.Text.{lineBytes}
 use Rattle.hextext.specs.Packed.{lineRead}
 use Rattle.hextext.specs.Laws.{line-within, line-size-pos}
+use Rattle.hextext.specs.PackedLaws.{line-next}
 use Rattle.sheet.specs.declared.table.PlayingTable.{PlayingTable}
 use Rattle.playing.specs.declared.onset.Latest.{Latest}
 use Rattle.playing.specs.declared.onset.OnsetStep.{OnsetStep}
 use Rattle.playing.specs.declared.Take.{Take}
 use Rattle.sheet.specs.Sheet.{Grammar, Playing, Timing, TimedSheet, inBar}
 use Rattle.sheet.specs.Outcome.{Outcome, accepted}
-use Rattle.sheet.specs.Reading.{byte, four, onsetRefusal, onsetOf, withOnset, nothing, inOnsets, refusal, after}
-use Rattle.sheet.specs.Rest.{readRest, stopped, rest-end, rest-past, rest-bad, rest-stop, rest-held, rest-next, rest-on}
+use Rattle.sheet.specs.Reading.{byte, four, onsetRefusal, onsetOf, withOnset, inOnsets, refusal, after}
+use Rattle.sheet.specs.Rest.{readRest, stopped, rest-end, rest-past, rest-bad, rest-stop, rest-held, rest-on}
 use Rattle.sheet.specs.Held.{LineHeld, units, playingTable, noGrammar, noPlaying, micros}
 use Rattle.sheet.specs.SoFar.{GoodSoFar}
 use Rattle.playing.specs.Contracts.{latestOf, OnsetStepped, TakeRead}
@@ -85,7 +86,7 @@ module _ {t : List ℕ} {at n bars : ℕ} {timing : Timing} {table : PlayingTabl
         (step : (c : List ℕ) → LineHeld l c → (g : Grammar) (q : Playing) (last : ℕ) → GoodSoFar timing q last → bars ≡ q .bars
         → k ≡ length (q .onsets) → s ≡ latestOf timing q last → OnsetStepped g timing q last c r) where
       line-held : LineHeld l b
-      line-held = rest-held t at′ inside l is nothing 0 filled
+      line-held = rest-held t at′ inside l is filled
 
       stepped : (g : Grammar) → OnsetStepped g timing p (h .last) b r
       stepped g = step b line-held g p (h .last) (h .good) (h .bars-are) (h .count) (h .latest)
@@ -122,7 +123,7 @@ module _ {t : List ℕ} {at n bars : ℕ} {timing : Timing} {table : PlayingTabl
         onsets-more pitch pitch-is table′ e =
             let o = onsetOf timing b in
             let unit = stepped noGrammar .unit z in
-            let next = rest-next t at′ inside l is nothing 0 filled in
+            let next = line-next t at′ l is filled in
             let m = line-size-pos t at′ inside in
             record {
               playing = withOnset p o;

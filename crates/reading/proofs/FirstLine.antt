@@ -26,7 +26,7 @@ module _ (t : List ℕ) (some : 0 < length t) (l : Line) (is : l ≡ lineRead t 
 
   module _ (filled : l .count ≡ 0 → ⊥) where
     pub first-held : LineHeld l b
-    first-held = rest-held t 0 some l is nothing 1 filled
+    first-held = rest-held t 0 some l is filled
 
     -- of another kind
     pub first-other : (l .kind ≡ 0x47 → ⊥) → readRest nothing 1 t ≡ stopped 3 1 t

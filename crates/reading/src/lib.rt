@@ -62,19 +62,19 @@ fn read_lines(digits: &Digits, text: &[u8]) -> Reading
     if head.kind != 0x47 {
         return stopped_at(digits, text, 0, 1, 3);
     }
-    let number = head_refusal(head);
-    if number != 0 {
-        return stopped_at(digits, text, 0, 1, number);
+    let head_number = head_refusal(head);
+    if head_number != 0 {
+        return stopped_at(digits, text, 0, 1, head_number);
     }
     let rules = read_rules(digits, text, head.next, 2, head_of(head));
-    let stop = rules.number;
-    if stop != 0 {
-        return stopped_at(digits, text, rules.at, rules.line, stop);
+    let rules_number = rules.number;
+    if rules_number != 0 {
+        return stopped_at(digits, text, rules.at, rules.line, rules_number);
     }
-    let take = read_playing(digits, text, rules.at, rules.line, rules.last);
-    let last = take.number;
-    if last != 0 {
-        return stopped_at(digits, text, take.at, take.line, last);
+    let take = read_playing(digits, text, rules.at, rules.line, rules.end);
+    let take_number = take.number;
+    if take_number != 0 {
+        return stopped_at(digits, text, take.at, take.line, take_number);
     }
     let grammar = rules.grammar;
     let timing = take.timing;

@@ -26,7 +26,7 @@ micros t = record { 0 = t }
 abbrev pub units : ℕ → Units
 units u = record { 0 = u }
 
--- a line of these bytes as it is held: its kind, its count, its first eight bytes and its last eight
+-- a line of these bytes as it is held: its kind, its count, its first eight bytes where it has more, and its last eight
 pub record LineHeld (l : Line) (b : List ℕ) : Type 0 where
   pub kind : l .kind ≡ byte b 0
   pub count : l .count ≡ length b

@@ -2,7 +2,7 @@
 -- takes them. Assumes nothing.
 use Prim.Native.Nat.{ℕ, zero, suc, _+_, _<_, _≤_}
 use mathlib.Core.Path.{_≡_, refl, sym, ap, subst, _∙_}
-use mathlib.Core.Bool.{true, false}
+use mathlib.Core.Bool.{true}
 use mathlib.Core.List.{List, [], _∷_}
 use native.Mathlib.Omega.{arith}
 use lib.ListN.{length, drop, length-drop, drop-of-length-le}
@@ -12,7 +12,7 @@ use Rattle.hextext.specs.declared.line.Line.{Line}
 use Rattle.hextext.specs.Text.{first, badFrom, badLine, lineBytes, lineSize, lines}
 use Rattle.hextext.specs.Packed.{formed, packed, lineRead}
 use Rattle.hextext.specs.Laws.{lines-first, lines-small}
-use Rattle.hextext.specs.PackedLaws.{line-bad, line-good}
+use Rattle.hextext.specs.PackedLaws.{line-bad, line-good, line-next}
 use Rattle.hextext.specs.OnePass.{unlessBad, readText, text-end, text-bad, text-on, text-stop}
 use Rattle.sheet.specs.Sheet.{TimedSheet}
 use Rattle.sheet.specs.Outcome.{Outcome, refused}
@@ -64,53 +64,48 @@ pub rest-past : (r : Progress) (n : ℕ) (t : List ℕ) (i : ℕ) → length t �
 rest-past r n t i h = rw (drop-of-length-le t {i = i} h) (text-end (refused 2) n (readLines r n))
 
 -- the line that starts at place i
-module _ (t : List ℕ) (i : ℕ) (inside : i < length t) (l : Line) (is : l ≡ lineRead t i) (r : Progress) (n : ℕ) where
+module _ (t : List ℕ) (i : ℕ) (inside : i < length t) (l : Line) (is : l ≡ lineRead t i) where
   some : 0 < length (drop i t)
   some = omega (arith, length-drop i t)
 
-  -- it is bad: reading stops, whatever the number
-  pub rest-bad : 0 < n → l .count ≡ 0 → (k : ℕ) → readRest r n (drop i t) ≡ stopped k n (drop i t)
-  rest-bad pos e k =
-      let bad = line-bad t i (sym (ap (λ (x : Line). x .count) is) ∙ e) in
-      text-bad (refused 2) n (readLines r n) (drop i t) some pos bad
-      ∙ sym (text-bad (refused 2) n (λ _. refused k n) (drop i t) some pos bad)
+  small : Every (λ (x : ℕ). x < 256) (lineBytes (drop i t))
+  small = subst (Every (Every (λ (x : ℕ). x < 256))) (lines-first (drop i t) some) (lines-small (drop i t)) .0
 
-  -- it is refused: reading stops
-  pub rest-stop : (k : ℕ) → k ≡ refusal r (lineBytes (drop i t)) → (k ≡ 0 → ⊥) → readRest r n (drop i t) ≡ stopped k n (drop i t)
-  rest-stop k e f =
-      text-stop (refused 2) n (readLines r n) (drop i t) some (refused k n) (λ ls. read-stop r n (lineBytes (drop i t)) ls k e f)
+  -- it is well formed where its count is not 0
+  good : (l .count ≡ 0 → ⊥) → (formed (drop i t) ≡ true) × (lineRead t i ≡ packed (lineBytes (drop i t)) (i + lineSize (drop i t)))
+  good filled = line-good t i (λ e. filled (ap (λ (x : Line). x .count) is ∙ e))
 
-  -- it is well formed
-  module _ (filled : l .count ≡ 0 → ⊥) where
-    good : (formed (drop i t) ≡ true) × (lineRead t i ≡ packed (lineBytes (drop i t)) (i + lineSize (drop i t)))
-    good = line-good t i (λ e. filled (ap (λ (x : Line). x .count) is ∙ e))
+  -- its fields
+  pub rest-held : (l .count ≡ 0 → ⊥) → LineHeld l (lineBytes (drop i t))
+  unfolding packed
+  rest-held filled =
+      let e = is ∙ good filled .1 in
+      record {
+        kind = ap (λ (x : Line). x .kind) e;
+        count = ap (λ (x : Line). x .count) e;
+        front = ap (λ (x : Line). x .front) e;
+        tail = ap (λ (x : Line). x .tail) e;
+        small = small;
+      }
 
-    small : Every (λ (x : ℕ). x < 256) (lineBytes (drop i t))
-    small = subst (Every (Every (λ (x : ℕ). x < 256))) (lines-first (drop i t) some) (lines-small (drop i t)) .0
+  module _ (r : Progress) (n : ℕ) where
+    -- it is bad: reading stops, whatever the number
+    pub rest-bad : 0 < n → l .count ≡ 0 → (k : ℕ) → readRest r n (drop i t) ≡ stopped k n (drop i t)
+    rest-bad pos e k =
+        let bad = line-bad t i (sym (ap (λ (x : Line). x .count) is) ∙ e) in
+        text-bad (refused 2) n (readLines r n) (drop i t) some pos bad
+        ∙ sym (text-bad (refused 2) n (λ _. refused k n) (drop i t) some pos bad)
 
-    -- its fields
-    pub rest-held : LineHeld l (lineBytes (drop i t))
-    unfolding packed
-    rest-held =
-        let e = is ∙ good .1 in
-        record {
-          kind = ap (λ (x : Line). x .kind) e;
-          count = ap (λ (x : Line). x .count) e;
-          front = ap (λ (x : Line). x .front) e;
-          tail = ap (λ (x : Line). x .tail) e;
-          small = small;
-        }
+    -- it is refused: reading stops
+    pub rest-stop : (k : ℕ) → k ≡ refusal r (lineBytes (drop i t)) → (k ≡ 0 → ⊥) → readRest r n (drop i t) ≡ stopped k n (drop i t)
+    rest-stop k e f =
+        text-stop (refused 2) n (readLines r n) (drop i t) some (refused k n) (λ ls. read-stop r n (lineBytes (drop i t)) ls k e f)
 
-    -- the place behind it
-    pub rest-next : l .next ≡ i + lineSize (drop i t)
-    unfolding packed
-    rest-next = ap (λ (x : Line). x .next) (is ∙ good .1)
-
-    -- it is not refused: reading goes on behind it
-    pub rest-on : refusal r (lineBytes (drop i t)) ≡ 0
+    -- it is well formed, and not refused: reading goes on behind it
+    pub rest-on : (l .count ≡ 0 → ⊥) → refusal r (lineBytes (drop i t)) ≡ 0
         → readRest r n (drop i t) ≡ readRest (after r (lineBytes (drop i t))) (n + 1) (drop (l .next) t)
-    rest-on e =
-        text-on (refused 2) n (readLines r n) (drop i t) some (readLines (after r (lineBytes (drop i t))) (n + 1)) (good .0)
+    rest-on filled e =
+        text-on (refused 2) n (readLines r n) (drop i t) some (readLines (after r (lineBytes (drop i t))) (n + 1)) (good filled .0)
         (λ ls. read-on r n (lineBytes (drop i t)) ls e)
         ∙ ap (readRest (after r (lineBytes (drop i t))) (n + 1))
-        (drop-drop (lineSize (drop i t)) i t ∙ ap (λ (k : ℕ). drop k t) (sym rest-next))
+        (drop-drop (lineSize (drop i t)) i t ∙ ap (λ (k : ℕ). drop k t) (sym (line-next t i l is filled)))

@@ -5,6 +5,10 @@ ghost use Prim.Native.Nat.{ℕ, _+_, _<_};
 ghost use Rattle.sheet.specs.Reading.{byte, two, four};
 ghost use Rattle.sheet.specs.Held.{LineHeld};
 use hextext::Line;
+use hextext::NUMBER_BYTES;
+
+// The place of the last byte of a number.
+const LAST_BYTE: usize = NUMBER_BYTES - 1;
 
 // Byte i of a line, one of its first eight or of its last eight; 0 past its end.
 pub fn byte_at(l: Line, i: usize) -> u8
@@ -15,18 +19,20 @@ pub fn byte_at(l: Line, i: usize) -> u8
         return 0;
     }
     let behind = l.count - i - 1;
-    if behind < 8 {
+    if behind < NUMBER_BYTES {
         return ((l.tail >> (8 * behind)) % 256) as u8;
     }
-    ((l.front >> (8 * (7 - i))) % 256) as u8
+    ((l.front >> (8 * (LAST_BYTE - i))) % 256) as u8
 }
 
+// A byte, in the width of a field.
 fn wide(x: u8) -> u32
     ensures { λ r. ⌜ (r ≡ x) × (r < 256) ⌝ }
 {
     x as u32
 }
 
+// A field of two bytes, in its own width.
 pub fn narrow(x: u32) -> u16
     requires { ⌜ x < 65536 ⌝ }
     ensures { λ r. ⌜ r ≡ x ⌝ }
@@ -49,7 +55,7 @@ pub fn four_at(l: Line, i: usize) -> u32
     requires { ⌜ i < 5 ⌝ }
     ensures { λ r. ⌜ ((b : List ℕ) → LineHeld l b → r ≡ four b i) ⌝ }
 {
-    if l.count <= 8 {
+    if l.count <= NUMBER_BYTES {
         if i + 4 <= l.count {
             return ((l.tail >> (8 * (l.count - i - 4))) % 4294967296) as u32;
         }

@@ -10,14 +10,14 @@ use native.Mathlib.Nat.{le-trans, le-of-eq}
 use lib.ListN.{length, drop}
 use Rattle.hextext.specs.Text.{lineBytes}
 use Rattle.hextext.specs.Laws.{line-falls, line-within, line-size-pos}
+use Rattle.hextext.specs.PackedLaws.{line-next}
 use Rattle.sheet.specs.Sheet.{Grammar}
-use Rattle.sheet.specs.Reading.{nothing}
-use Rattle.sheet.specs.Rest.{rest-next}
+use Rattle.sheet.specs.Rest.{rest-held}
 use Rattle.sheet.specs.Held.{grammarTable}
 use Rattle.sheet.specs.Good.{GoodRules}
 use Rattle.grammar.specs.Contracts.{arityOf}
 use Rattle.grammar.proofs.RuleLoop.{RulesSoFar, rules-none, rules-end, rules-bad, rules-early, rules-done, rules-stop}
-use Rattle.grammar.proofs.RuleLoop.{rules-more, rules-refused, held-at, rule-fits}
+use Rattle.grammar.proofs.RuleLoop.{rules-more, rules-refused, rule-fits}
 use Rattle.grammar.proofs.read_rules.Statement.{statement}
 use Rattle.grammar.proofs.read_rules.Tie as tie
 
@@ -95,7 +95,7 @@ returns-3 c h good e =
     let so = at-loop .loop .inv .3 h good e in
     let line = at-line .line-at .ensures in
     let filled = at-if1 .if1 .left in
-    let number = at-refusal .rule-refusal .ensures _ (held-at _ _ (search needs) _ line filled) in
+    let number = at-refusal .rule-refusal .ensures _ (rest-held _ _ (search needs) _ line filled) in
     rw (c .ended3 .ensures)
     (rules-refused _ (at-if3 .if3 .taken) (at-loop .loop .inv .1)
     (rules-stop so (search needs) _ line filled (at-if2 .if2 .left) _ number (at-if3 .if3 .taken)))
@@ -131,7 +131,7 @@ fits c =
     let at-loop = at-line .before .before in
     let line = at-line .line-at .ensures in
     let filled = at-if1 .if1 .left in
-    rule-fits _ _ (search needs) _ line filled _ _ _ (at-refusal .rule-refusal .ensures _ (held-at _ _ (search needs) _ line filled))
+    rule-fits _ _ (search needs) _ line filled _ _ _ (at-refusal .rule-refusal .ensures _ (rest-held _ _ (search needs) _ line filled))
     (at-if3 .if3 .left)
 
 rule-of-requires : tie.Need-rule-of-requires Inv-loop μ-loop
@@ -155,7 +155,7 @@ put-parts-requires c κs =
     let at-line = at-if1 .before .before in
     let at-loop = at-line .before .before in
     let m = fits at-if3 in
-    let arity = c .arity-of .ensures _ (held-at _ _ (search needs) _ (at-line .line-at .ensures) (at-if1 .if1 .left)) in
+    let arity = c .arity-of .ensures _ (rest-held _ _ (search needs) _ (at-line .line-at .ensures) (at-if1 .if1 .left)) in
     (m .0, le-trans (le-of-eq arity) (m .1), m .2)
 
 add-table : tie.Need-add-table Inv-loop μ-loop
@@ -169,7 +169,7 @@ loop-less c =
     let at-if1 = at-if2 .before .before in
     let at-line = at-if1 .before .before in
     let at-loop = at-line .before .before in
-    line-falls _ _ (search needs) _ (rest-next _ _ (search needs) _ (at-line .line-at .ensures) nothing 0 (at-if1 .if1 .left))
+    line-falls _ _ (search needs) _ (line-next _ _ _ (at-line .line-at .ensures) (at-if1 .if1 .left))
 
 loop-again : tie.Need-loop-again Inv-loop μ-loop
 loop-again c =
@@ -184,8 +184,8 @@ loop-again c =
     let text = at-start .args .text .now in
     let line = at-line .line-at .ensures in
     let filled = at-if1 .if1 .left in
-    let next = rest-next text (at-loop .loop .at) (search needs) _ line nothing 0 filled in
-    let held = held-at text (at-loop .loop .at) (search needs) _ line filled in
+    let next = line-next text (at-loop .loop .at) _ line filled in
+    let held = rest-held text (at-loop .loop .at) (search needs) _ line filled in
     let further = line-size-pos text (at-loop .loop .at) (search needs) in (
       le-trans (le-of-eq next) (line-within text (at-loop .loop .at) (search needs)),
       omega (arith, next, at-loop .loop .inv .1),

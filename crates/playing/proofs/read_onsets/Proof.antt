@@ -7,8 +7,7 @@ use mathlib.Core.Path.{refl}
 use native.Mathlib.Nat.{le-trans, le-of-eq}
 use lib.ListN.{length}
 use Rattle.hextext.specs.Laws.{line-falls}
-use Rattle.sheet.specs.Reading.{nothing}
-use Rattle.sheet.specs.Rest.{rest-next}
+use Rattle.hextext.specs.PackedLaws.{line-next}
 use Rattle.sheet.specs.Held.{timingTable}
 use Rattle.playing.specs.Contracts.{timingIn}
 use Rattle.playing.proofs.OnsetLoop.{OnsetsSoFar, onsets-none, onsets-bad, onsets-stop, onsets-room, onsets-more, onsets-missing}
@@ -110,7 +109,7 @@ loop-less c =
     let at-if1 = at-step .before in
     let at-line = at-if1 .before .before in
     let loop = at-line .before .before .loop in
-    line-falls _ _ (search needs) _ (rest-next _ _ (search needs) _ (at-line .line-at .ensures) nothing 0 (at-if1 .if1 .left))
+    line-falls _ _ (search needs) _ (line-next _ _ _ (at-line .line-at .ensures) (at-if1 .if1 .left))
 
 loop-again : tie.Need-loop-again Inv-loop μ-loop
 loop-again c =

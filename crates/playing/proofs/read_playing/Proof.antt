@@ -3,8 +3,7 @@ use mathlib.Core.Path.{_≡_, sym, _∙_}
 use native.Mathlib.Nat.{le-trans, le-of-eq}
 use native.Mathlib.Omega.{arith}
 use Rattle.hextext.specs.Laws.{line-within, line-size-pos}
-use Rattle.sheet.specs.Reading.{nothing}
-use Rattle.sheet.specs.Rest.{rest-next}
+use Rattle.hextext.specs.PackedLaws.{line-next}
 use Rattle.playing.proofs.OnsetLoop.{take-refused}
 use Rattle.playing.proofs.HeadLine.{head-held, head-refused, head-good, head-on}
 use borrow.Author.Needs.{needs}
@@ -46,7 +45,7 @@ read-onsets-requires c κs =
     let pre = at-start .pre in
     let text = at-start .args .text .now in
     let held = head-held text (at-start .args .at) (pre .1) _ (pre .4) (pre .5) in
-    let next = rest-next text (at-start .args .at) (pre .1) _ (pre .4) nothing 0 (λ z. omega (arith, pre .5)) in
+    let next = line-next text (at-start .args .at) _ (pre .4) (λ z. omega (arith, pre .5)) in
     let further = line-size-pos text (at-start .args .at) (pre .1) in (
       pre .0,
       le-trans (le-of-eq next) (line-within text (at-start .args .at) (omega (arith, pre .1))),

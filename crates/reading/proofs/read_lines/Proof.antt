@@ -7,8 +7,9 @@ use mathlib.Core.List.{List}
 use lib.ListN.{length, drop}
 use Rattle.hextext.specs.Text.{lineBytes}
 use Rattle.hextext.specs.Laws.{line-within, line-size-pos}
+use Rattle.hextext.specs.PackedLaws.{line-next}
 use Rattle.sheet.specs.Reading.{headOf, headRefusal, nothing, inRules}
-use Rattle.sheet.specs.Rest.{readRest, rest-next}
+use Rattle.sheet.specs.Rest.{readRest}
 use Rattle.sheet.specs.Held.{readingOf}
 use Rattle.grammar.specs.Contracts.{RulesRead, RulesDone}
 use Rattle.playing.specs.Contracts.{TakeRead}
@@ -137,7 +138,7 @@ read-rules-requires c κs =
     let at-line = at-if1 .before .before in
     let at-start = at-line .before .before in
     let text = at-start .args .text .now in
-    let next = rest-next text 0 (at-start .pre .1) _ (at-line .line-at .ensures) nothing 0 (at-if1 .if1 .left) in
+    let next = line-next text 0 _ (at-line .line-at .ensures) (at-if1 .if1 .left) in
     let further = line-size-pos text 0 (at-start .pre .1) in
     (at-start .pre .0, le-trans (le-of-eq next) (line-within text 0 (omega arith)), omega (arith, next), omega arith)
 
@@ -155,7 +156,7 @@ read-playing-requires : tie.Need-read-playing-requires
 read-playing-requires c κs =
     let at-rules = c .before in
     let d = rules at-rules .done (c .if4 .left) in
-    (line-place at-rules .before .before .pre .0, d .inside, d .line, d .numbered, d .last, d .filled)
+    (line-place at-rules .before .before .pre .0, d .inside, d .line, d .numbered, d .end, d .filled)
 
 stopped-at-requires-5 : tie.Need-stopped-at-requires-5
 stopped-at-requires-5 c κs =

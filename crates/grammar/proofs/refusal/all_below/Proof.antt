@@ -4,7 +4,7 @@ use borrow.Author.Needs.{needs}
 use native.Mathlib.Omega.{arith}
 use Prim.Native.Nat.{ℕ, _+_, _-_, _≤_}
 use mathlib.Core.Path.{_≡_, ap, _∙_, sym}
-use mathlib.Core.List.{List, _∷_}
+use mathlib.Core.List.{List}
 use Rattle.sheet.specs.Reading.{allBelow, bytesFrom}
 use Rattle.sheet.specs.Held.{LineHeld}
 use Rattle.grammar.proofs.Flats.{bytes-step, below-yes, below-no}

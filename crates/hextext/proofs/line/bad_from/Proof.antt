@@ -1,13 +1,14 @@
 -- `hextext::bad_from` meets its contract. The loop's invariant: no line in front of place `at` is bad. The measure is what is left of the
 -- text. Assumes nothing.
 use Prim.Native.Nat.{_+_, _-_, _≤_}
-use mathlib.Core.Path.{_≡_, refl, sym, ap, _∙_}
+use mathlib.Core.Path.{_≡_, refl, sym, _∙_}
 use native.Mathlib.Omega.{arith}
 use lib.ListN.{length, drop}
 use borrow.Author.Needs.{needs}
 use Rattle.hextext.specs.Text.{first, badFrom}
-use Rattle.hextext.proofs.BadSteps.{bad-past, bad-stop, bad-next, next-at}
+use Rattle.hextext.proofs.BadSteps.{bad-past, bad-stop, bad-next}
 use Rattle.hextext.specs.Laws.{line-falls, line-size-pos}
+use Rattle.hextext.specs.PackedLaws.{line-next}
 use Rattle.hextext.proofs.line.bad_from.Statement.{statement}
 use Rattle.hextext.proofs.line.bad_from.Tie as tie
 use Rattle.hextext.proofs.line.bad_from.Reads as reads
@@ -42,14 +43,14 @@ loop-less : tie.Need-loop-less Inv-loop μ-loop
 loop-less c =
     let at-line = c .before .before in
     let loop = at-line .before .before .loop in
-    line-falls _ _ (search needs) _ (next-at _ _ _ (at-line .line-at .ensures) (c .if1 .left))
+    line-falls _ _ (search needs) _ (line-next _ _ _ (at-line .line-at .ensures) (c .if1 .left))
 
 loop-again : tie.Need-loop-again Inv-loop μ-loop
 loop-again c =
     let at-line = c .before .before in
     let at-loop = at-line .before .before in
     let text = at-loop .before .before .args .text .now in
-    let next = next-at _ _ _ (at-line .line-at .ensures) (c .if1 .left) in
+    let next = line-next _ _ _ (at-line .line-at .ensures) (c .if1 .left) in
     let further = line-size-pos text (at-loop .loop .at) (search needs) in
     (omega (arith, next, at-loop .loop .inv .0), at-loop .loop .inv .1 ∙ bad-next _ _ _ (at-line .line-at .ensures) (c .if1 .left) _)
 

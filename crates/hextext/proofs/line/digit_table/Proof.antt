@@ -39,6 +39,9 @@ array-write-digits c = search needs
 cast-digits-2 : tie.Need-cast-digits-2 Inv-loop μ-loop
 cast-digits-2 c = search needs
 
+cast-digits-3 : tie.Need-cast-digits-3 Inv-loop μ-loop
+cast-digits-3 c = search needs
+
 add-digits : tie.Need-add-digits Inv-loop μ-loop
 add-digits c = search needs
 
@@ -89,10 +92,11 @@ digit-table-spec =
     digit-of-requires
     cast-b
     cast-digits
+    cast-digits-2
     mul-digits
     mul-digits-2
     array-write-digits
-    cast-digits-2
+    cast-digits-3
     add-digits
     mul-digits-3
     array-write-digits-2

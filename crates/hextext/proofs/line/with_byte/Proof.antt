@@ -1,10 +1,10 @@
 -- `hextext::with_byte` meets its contract, by the law of one byte more. Assumes nothing.
-use Prim.Native.Nat.{_+_, _*_, _%_}
+use Prim.Native.Nat.{_+_}
 use mathlib.Core.Bool.{cond}
 use mathlib.Core.Path.{sym, ap, _∙_}
 use lib.Dec.{eqb}
 use Rattle.hextext.specs.declared.line.Line.{Line}
-use Rattle.hextext.specs.Packed.{packed}
+use Rattle.hextext.specs.Packed.{withByte, packed}
 use Rattle.hextext.specs.PackedLaws.{packed-more}
 use borrow.Author.Needs.{needs}
 use Rattle.hextext.proofs.line.with_byte.Statement.{statement}
@@ -41,7 +41,7 @@ returns c bs e =
       kind = (at-kind .kind-with .ensures ∙ ap (λ (l : Line). cond (eqb (l .count) 0) b (l .kind)) e) j;
       count = e j .count + 1;
       front = (at-front .front-with .ensures ∙ ap (λ (l : Line). cond (eqb (l .count) 8) (l .tail) (l .front)) e) j;
-      tail = e j .tail % 72057594037927936 * 256 + b;
+      tail = withByte (e j .tail) b;
       next = 0;
     })
     ∙ sym (packed-more bs b)
