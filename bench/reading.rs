@@ -103,10 +103,17 @@ fn peer_tree_bytes(text: &[u8]) -> u64 {
     peer::read(text).map_or(0, |sheet| peer::tree_bytes(&sheet))
 }
 
-/// A name, the library's entry and the peer's.
+/// A name, the library's entry and the peer's. Beside reading, the first takes a
+/// product, the second the lengths that the divisions reach and a bar's onsets.
 const TIMED: [(&str, [Entry; 2]); 2] = [
-    ("tree bytes", [library::tree_bytes, peer_tree_bytes]),
-    ("work cells", [library::work_cells, peer_work_cells]),
+    (
+        "reading (tree bytes)",
+        [library::tree_bytes, peer_tree_bytes],
+    ),
+    (
+        "reading and the lengths (work cells)",
+        [library::work_cells, peer_work_cells],
+    ),
 ];
 
 fn time_all() {
