@@ -136,27 +136,27 @@ fn most_in_a_bar(sheet: &Sheet) -> u64 {
     most
 }
 
-/// What a byte is worth as the first digit of a pair, and as the second.
-static FIRST: [u32; 256] = digit_values(16);
-static SECOND: [u32; 256] = digit_values(1);
-/// More than any pair of digits stands for; every byte that is no digit has it.
-const NO_BYTE: u32 = 0x100;
+/// What each two bytes, as one number, stand for: a byte if both are digits,
+/// else `NO_BYTE`. One look-up a pair is faster than one a digit.
+static BYTES: [u16; 1 << 16] = bytes_of_pairs();
+const NO_BYTE: u16 = 0x100;
 
-const fn digit_values(unit: u32) -> [u32; 256] {
+const fn bytes_of_pairs() -> [u16; 1 << 16] {
     let digits = b"0123456789ABCDEF";
-    let mut values = [NO_BYTE; 256];
-    let mut value = 0;
-    while value < digits.len() {
-        values[digits[value] as usize] = unit * value as u32;
-        value += 1;
+    let mut bytes = [NO_BYTE; 1 << 16];
+    let mut byte = 0;
+    while byte < 256 {
+        let pair = [digits[byte >> 4], digits[byte & 15]];
+        bytes[u16::from_le_bytes(pair) as usize] = byte as u16;
+        byte += 1;
     }
-    values
+    bytes
 }
 
-/// The byte a pair of digits stands for; `NO_BYTE` or more for any other pair.
+/// The byte a pair of digits stands for; `NO_BYTE` for any other pair.
 #[inline(always)]
-fn byte(pair: &[u8]) -> u32 {
-    FIRST[usize::from(pair[0])] | SECOND[usize::from(pair[1])]
+fn byte(pair: &[u8; 2]) -> u16 {
+    BYTES[usize::from(u16::from_le_bytes(*pair))]
 }
 
 /// One well-formed line.
@@ -231,7 +231,7 @@ impl<'a> Lines<'a> {
     /// `None` if the line is badly formed.
     #[inline(always)]
     fn line(&mut self) -> Option<Line> {
-        let mut pairs = self.rest.chunks_exact(2);
+        let mut pairs = self.rest.as_chunks().0.iter();
         let kind = byte(pairs.next()?);
         if kind >= NO_BYTE {
             return None;
@@ -565,8 +565,8 @@ pub mod tests {
             for low in 0..=255 {
                 let value = byte(&[high, low]);
                 match digit(high).zip(digit(low)) {
-                    Some((high, low)) => assert_eq!(value as usize, 16 * high + low),
-                    None => assert!(value >= NO_BYTE),
+                    Some((high, low)) => assert_eq!(usize::from(value), 16 * high + low),
+                    None => assert_eq!(value, NO_BYTE),
                 }
             }
         }
