@@ -12,7 +12,8 @@
 --   badLine text                       the first bad line of a text, 0 for none (hextext/specs/Text)
 --   lineRead text at, lineBytes        the line that starts at a place as one loop reads it (hextext/specs/Packed); the bytes of a text's
 --                                      first line (hextext/specs/Text)
---   LineHeld l b                       l holds the line b: its kind, its count, its first eight bytes where it has more, its last eight (sheet/specs/Held)
+--   LineHeld l b                       l holds the line b: its kind, its count, its first eight bytes where it has more, and its last
+--                                      eight (sheet/specs/Held)
 use Prim.Native.Nat.{ℕ, _+_, _≤_, _<_}
 use mathlib.Core.Path.{_≡_, refl, sym, ap, _∙_}
 use mathlib.Core.List.{List}

@@ -16,7 +16,8 @@ use Rattle.filling.specs.Filling.{FillEntry, Filled, AtEntry, FilledAt, 
 
 -- ---- the lengths of an onset
 
-module _ {s : Sheet} {plan us order rows pairs : List ℕ} {bar : Bar} {from : ℕ} (e : OnsetEntry s plan us order rows pairs bar from) where
+module _ {s : Sheet} {plan us order rows pairs : List ℕ} {bar : Bar} {from : ℕ}
+    (e : OnsetEntry s plan us order rows pairs bar from) where
   -- behind the last length nothing is to be filled
   pub onset-begin : {best : List ℕ} {l : ℕ} → l ≡ lengthsCell plan → length best ≡ 32
       → (l ≤ lengths s) × FilledAt s order rows pairs best bar from l

@@ -76,5 +76,6 @@ cell-more l rs n j cells q hn hj e =
     let b = getD l (j + 5) 0 in
     pad-more 512 0 (flat rs ++ bytesFrom j 5 l) cells (n * 8 + j) b e
     (length-append (flat rs) (bytesFrom j 5 l) ∙ omega (arith, length-flat rs, length-bytes l j 5)) (omega arith)
-    ∙ ap (pad 512 0) (append-assoc (flat rs) (bytesFrom j 5 l) (b ∷ []) ∙ ap (λ (t : List ℕ). flat rs ++ t) (sym (bytes-snoc l j 5))
+    ∙ ap (pad 512 0) (append-assoc (flat rs) (bytesFrom j 5 l) (b ∷ [])
+    ∙ ap (λ (t : List ℕ). flat rs ++ t) (sym (bytes-snoc l j 5))
     ∙ ap (λ (m : ℕ). flat rs ++ bytesFrom m 5 l) (sym (add-one j)))

@@ -44,7 +44,8 @@ pub rules-none : (t : List ℕ) (at n : ℕ) (h : Grammar) (table : GrammarTable
     → RulesSoFar t at n h table at n
 rules-none t at n h table good e = record { grammar = h; good = good; table-is = e; rest = refl }
 
-module _ {t : List ℕ} {at n : ℕ} {h : Grammar} {table : GrammarTable} {at′ n′ : ℕ} (so : RulesSoFar t at n h table at′ n′) where
+module _ {t : List ℕ} {at n : ℕ} {h : Grammar} {table : GrammarTable} {at′ n′ : ℕ}
+    (so : RulesSoFar t at n h table at′ n′) where
   abbrev g : Grammar
   g = so .grammar
 
@@ -155,12 +156,14 @@ module _ {t : List ℕ} {at n : ℕ} {h : Grammar} {table : GrammarTable} {at′
           rules-more cell ec children m em put table′ et =
               let e = so .table-is in
               let counted = length-map (g .rules) partsOf ∙ sym (ap (λ (x : GrammarTable). x .count) e) in
+              let fits = rule-fits t at′ inside l is filled (table .nonterminals) (table .count) k number z in
+              let with-parts : List ℕ → List ℕ = λ x. childCells (map partsOf (g .rules) ++ (x ∷ [])) in
               let parts = put (map partsOf (g .rules)) counted (ap (λ (x : GrammarTable). x .children) e)
-              ∙ ap (λ (x : List ℕ). childCells (map partsOf (g .rules) ++ (x ∷ []))) (ap (λ (x : ℕ). bytesFrom x 5 b) em ∙ parts-are b) in
+              ∙ ap with-parts (ap (λ (x : ℕ). bytesFrom x 5 b) em ∙ parts-are b) in
               record {
                 grammar = withRule g (ruleOf b);
                 good = subst GoodProgress next (good-after (inRules g) b (line-small b (line-held .small)) (so .good) met);
-                table-is = et ∙ rule-stored g table (ruleOf b) cell children e (rule-fits t at′ inside l is filled (table .nonterminals) (table .count) k number z .0) (ec ∙ cell-is b) parts;
+                table-is = et ∙ rule-stored g table (ruleOf b) cell children e (fits .0) (ec ∙ cell-is b) parts;
                 rest =
                     so .rest ∙ rest-on t at′ inside l is (inRules g) n′ filled met
                     ∙ ap (λ x. readRest x (n′ + 1) (drop (l .next) t)) next;

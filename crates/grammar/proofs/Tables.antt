@@ -48,7 +48,8 @@ module _ (l : List ℕ) where
 
 -- a table with one rule more
 pub rule-stored : (g : Grammar) (t : GrammarTable) (r : Rule) (cell : RuleCell) (children : List ℕ)
-    → t ≡ grammarTable g → t .count < 64 → cell ≡ ruleCell r → children ≡ childCells (map partsOf (g .rules) ++ (partsOf r ∷ []))
+    → t ≡ grammarTable g → t .count < 64 → cell ≡ ruleCell r
+    → children ≡ childCells (map partsOf (g .rules) ++ (partsOf r ∷ []))
     → record {
       nonterminals = t .nonterminals;
       start = t .start;

@@ -84,7 +84,8 @@ module _ {text : List ℕ} {at : ℕ} {line₀ line : List ℕ} {count i : ℕ} 
   pub ended-last : i + 1 ≡ length text → NextLine text at line₀ line (record { count = count; next = i + 1 })
   unfolding lineBytes lineSize
   ended-last h =
-      let here : drop i text ≡ getD text i 0 ∷ [] = rw (drop-step text i (omega arith), drop-of-length-le text {i = i + 1} (omega arith)) in
+      let here : drop i text ≡ getD text i 0 ∷ [] =
+      rw (drop-step text i (omega arith), drop-of-length-le text {i = i + 1} (omega arith)) in
       ended (ap lineBytes here) (ap (λ (l : List ℕ). i + lineSize l) here)
 
   -- by the end of the text
@@ -95,8 +96,10 @@ module _ {text : List ℕ} {at : ℕ} {line₀ line : List ℕ} {count i : ℕ} 
       ended (ap lineBytes here) (ap (λ (l : List ℕ). i + lineSize l) here ∙ add-zero i)
 
   -- a pair is next
-  module _ (h : i + 1 < length text) (e : getD text i 0 ≡ 10 → ⊥) (b : ℕ) (is : b ≡ pair (getD text i 0) (getD text (i + 1) 0)) where
-    read-pair : (line₁ : List ℕ) → line₁ ≡ over (r .front ++ (b ∷ [])) line₀ → Read text at line₀ line₁ (count + 1) (i + 1 + 1)
+  module _ (h : i + 1 < length text) (e : getD text i 0 ≡ 10 → ⊥)
+      (b : ℕ) (is : b ≡ pair (getD text i 0) (getD text (i + 1) 0)) where
+    read-pair : (line₁ : List ℕ) → line₁ ≡ over (r .front ++ (b ∷ [])) line₀
+        → Read text at line₀ line₁ (count + 1) (i + 1 + 1)
     read-pair line₁ w =
         record {
           front = r .front ++ (b ∷ []);

@@ -94,7 +94,8 @@ no-pair-end t i h c = go (decLt i (length t))
     go (no l) = rw (drop-of-length-le t {i = i} (omega arith)) (none-false c)
 
 -- at two bytes that are not both digits
-pub no-pair-two : (t : List ℕ) (i : ℕ) → i + 1 < length t → (isDigit (getD t i 0) && isDigit (getD t (i + 1) 0)) ≡ false → NoPair (drop i t)
+pub no-pair-two : (t : List ℕ) (i : ℕ) → i + 1 < length t → (isDigit (getD t i 0) && isDigit (getD t (i + 1) 0)) ≡ false
+    → NoPair (drop i t)
 no-pair-two t i h e c = rw (two-steps t i h) (go (ℕ-discrete (getD t i 0) 10))
   where
     go : Dec (getD t i 0 ≡ 10)
@@ -123,7 +124,8 @@ module _ {text : List ℕ} {at : ℕ} {l : Line} {i : ℕ} (p : Packs text at l 
   unfolding closedLine lineRead
   packs-end none r e = e ∙ go (hasByte (p .bs) && closes (drop i text)) refl (p .form ∙ none (hasByte (p .bs)))
     where
-      go : (x : Bool) → (hasByte (p .bs) && closes (drop i text)) ≡ x → formed (drop at text) ≡ (hasByte (p .bs) && closes (drop i text))
+      go : (x : Bool) → (hasByte (p .bs) && closes (drop i text)) ≡ x
+          → formed (drop at text) ≡ (hasByte (p .bs) && closes (drop i text))
           → orNone (hasByte (p .bs) && closes (drop i text)) (packed (p .bs) (i + 1))
           ≡ orNone (formed (drop at text)) (packed (lineBytes (drop at text)) (at + lineSize (drop at text)))
       go true z f =

@@ -38,7 +38,8 @@ module _ (c : Bool) (h : ℕ) where
       go false = refl
 
   -- and any other byte is the first of a pair
-  pub form-pair : (l : ℕ) (t : List ℕ) → (h ≡ 10 → ⊥) → formedFrom c (h ∷ l ∷ t) ≡ ((isDigit h && isDigit l) && formedFrom true t)
+  pub form-pair : (l : ℕ) (t : List ℕ) → (h ≡ 10 → ⊥)
+      → formedFrom c (h ∷ l ∷ t) ≡ ((isDigit h && isDigit l) && formedFrom true t)
   unfolding formedFrom
   form-pair l t f = ap (choice c ((isDigit h && isDigit l) && formedFrom true t)) (ne-eqb h 10 f)
 
@@ -50,7 +51,8 @@ no-digit-10 h d e = false≢true (sym (no-digit-low h (omega arith)) ∙ d)
 
 -- byte 0A: it closes a line that has a pair, and is a fault elsewhere
 bad-close : (n : ℕ) (c : Bool) (h : ℕ) (t : List ℕ) → h ≡ 10
-    → ((c ≡ true → badFrom n (place c) (h ∷ t) ≡ badFrom (n + 1) first t) × (c ≡ false → badFrom n (place c) (h ∷ t) ≡ n))
+    → ((c ≡ true → badFrom n (place c) (h ∷ t) ≡ badFrom (n + 1) first t)
+    × (c ≡ false → badFrom n (place c) (h ∷ t) ≡ n))
 bad-close n true h t e = (λ k. by-step n even h t ∙ rw (eq-eqb h 10 e) refl, λ k. absurd (false≢true (sym k)))
 bad-close n false h t e = (λ k. absurd (false≢true k), λ k. by-step n first h t ∙ rw (eq-eqb h 10 e) refl)
 
@@ -74,7 +76,8 @@ bad-second : (n l : ℕ) (t : List ℕ) → isDigit l ≡ true → badFrom n odd
 bad-second n l t d = at-digit n odd l t (no-digit-10 l d) d
 
 -- a line that is well formed moves the search behind it
-pub bad-on : (n : ℕ) (c : Bool) (u : List ℕ) → formedFrom c u ≡ true → badFrom n (place c) u ≡ badFrom (n + 1) first (drop (lineSize u) u)
+pub bad-on : (n : ℕ) (c : Bool) (u : List ℕ) → formedFrom c u ≡ true
+    → badFrom n (place c) u ≡ badFrom (n + 1) first (drop (lineSize u) u)
 unfolding formedFrom lineSize
 bad-on n c [] e = absurd (false≢true e)
 bad-on n c (h ∷ []) e = go (ℕ-discrete h 10)
@@ -94,7 +97,8 @@ bad-on n c (h ∷ l ∷ t) e = go (ℕ-discrete h 10) (bad-on n true t)
         (bad-first n c h (l ∷ t) (digits .0) ∙ bad-second n l t (digits .1) ∙ behind (both .1))
 
 -- and any other ends it
-pub bad-here : (n : ℕ) (c : Bool) (u : List ℕ) → (c ≡ false → 0 < length u) → formedFrom c u ≡ false → badFrom n (place c) u ≡ n
+pub bad-here : (n : ℕ) (c : Bool) (u : List ℕ) → (c ≡ false → 0 < length u) → formedFrom c u ≡ false
+    → badFrom n (place c) u ≡ n
 unfolding formedFrom badFrom
 bad-here n false [] some e = let f : ⊥ = omega (arith, some refl) in absurd f
 bad-here n true [] some e = refl
@@ -107,7 +111,8 @@ bad-here n c (h ∷ []) some e = go (ℕ-discrete h 10) (isDigit h) refl
 bad-here n c (h ∷ l ∷ t) some e = go (ℕ-discrete h 10) (isDigit h) refl (isDigit l) refl (bad-here n true t)
   where
     go : Dec (h ≡ 10) → (d : Bool) → isDigit h ≡ d → (d′ : Bool) → isDigit l ≡ d′
-        → ((true ≡ false → 0 < length t) → formedFrom true t ≡ false → badFrom n even t ≡ n) → badFrom n (place c) (h ∷ l ∷ t) ≡ n
+        → ((true ≡ false → 0 < length t) → formedFrom true t ≡ false → badFrom n even t ≡ n)
+        → badFrom n (place c) (h ∷ l ∷ t) ≡ n
     go (yes k) d z d′ z′ behind = bad-close n c h (l ∷ t) k .1 (sym (form-close c h (l ∷ t) k) ∙ e)
     go (no f) false z d′ z′ behind = bad-foreign n (place c) h (l ∷ t) f z
     go (no f) true z false z′ behind = bad-first n c h (l ∷ t) z ∙ bad-odd n l t z′
@@ -143,7 +148,8 @@ module _ {A : Type 0} (bad : ℕ → A) (n : ℕ) (read : List (List ℕ) → A)
         go (suc k) h = refl
 
     -- the first line is well formed, and the reader goes on behind it
-    pub text-on : (read′ : List (List ℕ) → A) → formed t ≡ true → ((ls : List (List ℕ)) → read (lineBytes t ∷ ls) ≡ read′ ls)
+    pub text-on : (read′ : List (List ℕ) → A) → formed t ≡ true
+        → ((ls : List (List ℕ)) → read (lineBytes t ∷ ls) ≡ read′ ls)
         → readText bad n read t ≡ readText bad (n + 1) read′ (drop (lineSize t) t)
     unfolding readText
     text-on read′ e f =

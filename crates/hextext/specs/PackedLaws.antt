@@ -153,7 +153,9 @@ front-more bs b = go (ℕ-discrete (length bs) 8) (decLt 8 (length bs))
     go : Dec (length bs ≡ 8) → Dec (8 < length bs)
         → cond (ltb 8 (length (bs ++ (b ∷ [])))) (tailOf (take 8 (bs ++ (b ∷ [])))) 0
         ≡ cond (eqb (length bs) 8) (tailOf bs) (cond (ltb 8 (length bs)) (tailOf (take 8 bs)) 0)
-    go (yes e) l = rw (lt-ltb 8 (length (bs ++ (b ∷ []))) (omega (arith, n)), eq-eqb (length bs) 8 e) (ap tailOf (take-at bs (b ∷ []) 8 e))
+    go (yes e) l =
+        rw (lt-ltb 8 (length (bs ++ (b ∷ []))) (omega (arith, n)), eq-eqb (length bs) 8 e)
+        (ap tailOf (take-at bs (b ∷ []) 8 e))
     go (no e) (yes l) =
         rw (lt-ltb 8 (length (bs ++ (b ∷ []))) (omega (arith, n)), ne-eqb (length bs) 8 e, lt-ltb 8 (length bs) l)
         (ap tailOf (take-append-le 8 bs (b ∷ []) (omega arith)))
@@ -217,7 +219,8 @@ module _ (t : List ℕ) (i : ℕ) where
       go false z = absurd (f (ap (λ (x : Bool). orNone x (packed (lineBytes (drop i t)) (i + lineSize (drop i t))) .count) z))
 
 -- the place behind it
-pub line-next : (t : List ℕ) (i : ℕ) (l : Line) → l ≡ lineRead t i → (l .count ≡ 0 → ⊥) → l .next ≡ i + lineSize (drop i t)
+pub line-next : (t : List ℕ) (i : ℕ) (l : Line) → l ≡ lineRead t i → (l .count ≡ 0 → ⊥)
+    → l .next ≡ i + lineSize (drop i t)
 unfolding packed
 line-next t i l is filled =
     ap (λ (x : Line). x .next) (is ∙ line-good t i (λ e. filled (ap (λ (x : Line). x .count) is ∙ e)) .1)

@@ -43,7 +43,8 @@ module _ (t : List ℕ) (at : ℕ) (inside : at < length t) (l : Line) (is : l �
     unfolding refusal rulesRefusal
     refusal-is = sym (simp (eq-eqb (byte b 0) 0x45 kind-is, lt-ltb 0 (length (g .rules)) some))
 
-    pub head-refused : (k : ℕ) → k ≡ playingRefusal b → (k ≡ 0 → ⊥) → readRest (inRules g) n (drop at t) ≡ stopped k n (drop at t)
+    pub head-refused : (k : ℕ) → k ≡ playingRefusal b → (k ≡ 0 → ⊥)
+        → readRest (inRules g) n (drop at t) ≡ stopped k n (drop at t)
     head-refused k e f = rest-stop t at inside l is (inRules g) n k (e ∙ refusal-is) f
 
     module _ (met : playingRefusal b ≡ 0) where

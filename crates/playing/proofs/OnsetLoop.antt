@@ -28,7 +28,8 @@ use Rattle.sheet.specs.GoodLaws.{good-onset}
 use Rattle.playing.proofs.Tables.{onset-stored}
 
 -- of the lines from line n, at place `at`, on, those before line n′, at place at′, have been read as k onsets
-pub record OnsetsSoFar (t : List ℕ) (at n bars : ℕ) (timing : Timing) (table : PlayingTable) (s : Latest) (at′ n′ k : ℕ) : Type 0 where
+pub record OnsetsSoFar (t : List ℕ) (at n bars : ℕ) (timing : Timing)
+    (table : PlayingTable) (s : Latest) (at′ n′ k : ℕ) : Type 0 where
   pub playing : Playing
   pub last : ℕ
   pub good : GoodSoFar timing playing last
@@ -83,7 +84,8 @@ module _ {t : List ℕ} {at n bars : ℕ} {timing : Timing} {table : PlayingTabl
 
     -- one that is well formed
     module _ (filled : l .count ≡ 0 → ⊥) (r : OnsetStep)
-        (step : (c : List ℕ) → LineHeld l c → (g : Grammar) (q : Playing) (last : ℕ) → GoodSoFar timing q last → bars ≡ q .bars
+        (step : (c : List ℕ) → LineHeld l c → (g : Grammar) (q : Playing) (last : ℕ) → GoodSoFar timing q last
+        → bars ≡ q .bars
         → k ≡ length (q .onsets) → s ≡ latestOf timing q last → OnsetStepped g timing q last c r) where
       line-held : LineHeld l b
       line-held = rest-held t at′ inside l is filled
@@ -158,7 +160,8 @@ module _ {t : List ℕ} {at n bars : ℕ} {timing : Timing} {table : PlayingTabl
 
 -- what is returned where a line is bad or refused, or none is left
 pub take-refused : {t : List ℕ} {o : Outcome TimedSheet} {g : Grammar} {number line at : ℕ} (r : Take)
-    → (r .number ≡ number) × (r .line ≡ line) × (r .at ≡ at) → (number ≡ 0 → ⊥) → line ≤ at + 1 → o ≡ stopped number line (drop at t)
+    → (r .number ≡ number) × (r .line ≡ line) × (r .at ≡ at) → (number ≡ 0 → ⊥) → line ≤ at + 1
+    → o ≡ stopped number line (drop at t)
     → TakeRead t o g r
 take-refused {t} r q f place e =
     record {

@@ -96,7 +96,8 @@ module _ (g : Grammar) (timing : Timing) (p : Playing) (last : ℕ) (l : List �
   module _ (good : GoodSoFar timing p last) (bars n : ℕ) (s : Latest) (eb : bars ≡ p .bars) (en : n ≡ length (p .onsets))
       (es : s ≡ latestOf timing p last) where
     -- of the moment
-    pub moment-is : (t : ℕ) → t ≡ four l 1 → momentRefusal bars timing (s .time .0) t ≡ momentRefusal (p .bars) timing last (four l 1)
+    pub moment-is : (t : ℕ) → t ≡ four l 1
+        → momentRefusal bars timing (s .time .0) t ≡ momentRefusal (p .bars) timing last (four l 1)
     moment-is t et = λ j. momentRefusal (eb j) timing (es j .time .0) (et j)
 
     -- of the onsets in its bar

@@ -98,7 +98,8 @@ fn read_onsets(
     timing: TimingTable,
 ) -> Take
     requires { ⌜
-        DigitTable (now digits) × (at ≤ length (now text)) × (line ≤ at + 1) × (0 < line) × GoodSoFar (timingIn timing) (noPlaying bars) 0
+        DigitTable (now digits) × (at ≤ length (now text)) × (line ≤ at + 1) × (0 < line)
+        × GoodSoFar (timingIn timing) (noPlaying bars) 0
         ⌝ }
     ensures { λ r. ⌜ ((g : Grammar) → OnsetsRead (now (text .entry)) at line g bars (timingIn timing) r) ⌝ }
 {
@@ -146,7 +147,8 @@ fn read_onsets(
 // The `45` line l, line `line` at place `at`, and the lines after it, up to the end of the text.
 pub fn read_playing(digits: &Digits, text: &[u8], at: usize, line: usize, l: Line) -> Take
     requires { ⌜
-        DigitTable (now digits) × (at < length (now text)) × (line ≤ at + 1) × (0 < line) × (l ≡ lineRead (now text) at) × (0 < l .count)
+        DigitTable (now digits) × (at < length (now text)) × (line ≤ at + 1) × (0 < line)
+        × (l ≡ lineRead (now text) at) × (0 < l .count)
         ⌝ }
     ensures { λ r. ⌜ ((g : Grammar) → PlayingRead (now (text .entry)) at line l g r) ⌝ }
 {

@@ -65,7 +65,8 @@ pub fn first_behind(units: &PackedUnits, from: usize, right: Units) -> usize
         × (right .0 ≤ lastUnit))
         ⌝ }
     ensures { λ r. ⌜
-        ((s : Sheet) (left : ℕ) → UnitsHeld s (now (units .entry)) → from ≡ firstAt s left → left ≤ right .0 → right .0 ≤ lastUnit
+        ((s : Sheet) (left : ℕ) → UnitsHeld s (now (units .entry)) → from ≡ firstAt s left → left ≤ right .0
+        → right .0 ≤ lastUnit
         → r ≡ firstAt s (right .0))
         ⌝ }
 {

@@ -147,7 +147,8 @@ pub record SuffixStepPre (s : Sheet) (roots : List ℕ) (e b : ℕ) (v : List �
 -- w has their least sums with v
 pub record SuffixStep (roots : List ℕ) (b : ℕ) (v w : List ℕ) : Type 0 where
   pub four : length w ≡ 4
-  pub is : (c : ℕ) → c < carries → getD w c 0 ≡ lowest NONE (λ m. getD (rowAt roots (4 * (4 * b + c))) m 0 / 64 + getD v m 0) carries
+  pub is : (c : ℕ) → c < carries
+      → getD w c 0 ≡ lowest NONE (λ m. getD (rowAt roots (4 * (4 * b + c))) m 0 / 64 + getD v m 0) carries
   pub low : Low w
 
 -- the suffix costs of the bars from bar `from` on that are before bar e are made of their rows

@@ -1,7 +1,7 @@
 -- Every accepted text means a good sheet (`good`): what has been read is good at each step, and stays so with each line that is not
 -- refused.
 use Prim.Native.Nat.{ℕ, zero, suc, _+_, _*_, _<_, _≤_}
-use mathlib.Core.Path.{_≡_, refl, sym, ap, _∙_, subst}
+use mathlib.Core.Path.{_≡_, refl, sym, ap, subst}
 use mathlib.Core.Bool.{Bool, true, false, cond, _&&_, false≢true}
 use mathlib.Core.List.{List, [], _∷_, _++_}
 use native.Mathlib.Omega.{arith}
@@ -15,10 +15,10 @@ use Rattle.hextext.specs.Text.{lines, badLine}
 use Rattle.hextext.specs.Laws.{lines-small}
 use Rattle.sheet.specs.Sheet.{Rule, Onset, Grammar, Playing, Timing, TimedSheet, unitIn, barOf, inBar, barUnits}
 use Rattle.sheet.specs.Outcome.{Outcome, refused, accepted}
-use Rattle.sheet.specs.Reading.{byte, two, four, allBelow, bytesFrom, headRefusal, headOf, divisionRefusal, divisionOf}
-use Rattle.sheet.specs.Reading.{leafRefusal, leafOf, ruleRefusal, ruleOf, withRule, playingRefusal, playingOf, timingOf}
-use Rattle.sheet.specs.Reading.{onsetRefusal, onsetOf, withOnset, Progress, nothing, inRules, inOnsets, rulesRefusal, refusal, after}
-use Rattle.sheet.specs.Reading.{demand, atEnd, readLines, readSheet}
+use Rattle.sheet.specs.Reading.{byte, two, four, allBelow, bytesFrom, headRefusal, headOf, divisionRefusal, divisionOf, leafRefusal}
+use Rattle.sheet.specs.Reading.{leafOf, ruleRefusal, ruleOf, withRule, playingRefusal, playingOf, timingOf, onsetRefusal, onsetOf}
+use Rattle.sheet.specs.Reading.{withOnset, Progress, nothing, inRules, inOnsets, rulesRefusal, refusal, after, demand, atEnd}
+use Rattle.sheet.specs.Reading.{readLines, readSheet}
 use Rattle.sheet.specs.Clock.{unit-lt, unit-mono}
 use Rattle.sheet.specs.Good.{Rising, GoodRule, GoodRules, GoodTiming, Good}
 use Rattle.sheet.specs.SoFar.{GoodSoFar, GoodProgress}
@@ -60,7 +60,8 @@ good-head l h e =
       rules = tt;
     }
 
-good-with-rule : (g : Grammar) (r : Rule) → GoodRules g → GoodRule (g .nonterminals) r → length (g .rules) < 64 → GoodRules (withRule g r)
+good-with-rule : (g : Grammar) (r : Rule) → GoodRules g → GoodRule (g .nonterminals) r → length (g .rules) < 64
+    → GoodRules (withRule g r)
 unfolding withRule
 good-with-rule g r h k room =
     record {

@@ -120,7 +120,8 @@ playing-passed l e =
       longest = leb-true _ _ (e₅ .0);
     }
 
-pub moment-passed : (bars : ℕ) (timing : Timing) (last t : ℕ) → momentRefusal bars timing last t ≡ 0 → (last ≤ t) × (t < endOf bars timing)
+pub moment-passed : (bars : ℕ) (timing : Timing) (last t : ℕ) → momentRefusal bars timing last t ≡ 0
+    → (last ≤ t) × (t < endOf bars timing)
 unfolding momentRefusal
 moment-passed bars timing last t e =
     let e₁ = demand-zero (leb last t) 5 _ e in
@@ -145,7 +146,8 @@ pub record OnsetPassed (timing : Timing) (p : Playing) (last : ℕ) (l : List �
   pub room : length (p .onsets) < 512
   pub few : inBar (barOf (unitIn timing (four l 1))) (p .onsets) < 32
 
-pub onset-passed : (timing : Timing) (p : Playing) (last : ℕ) (l : List ℕ) → onsetRefusal timing p last l ≡ 0 → OnsetPassed timing p last l
+pub onset-passed : (timing : Timing) (p : Playing) (last : ℕ) (l : List ℕ) → onsetRefusal timing p last l ≡ 0
+    → OnsetPassed timing p last l
 unfolding onsetRefusal
 onset-passed timing p last l e =
     let e₁ = first-zero (onsetForm l) _ e in

@@ -6,8 +6,8 @@ use mathlib.Core.List.{List, [], _∷_, _++_}
 use lib.ListN.{length, getD}
 use lib.Dec.{ltb, leb, eqb}
 use Rattle.hextext.specs.Text.{badLine, lines}
-use Rattle.sheet.specs.Sheet.{Rule, division, leaf, Onset, Grammar, Playing, Sheet, Timing, TimedSheet, unitOf, unitIn, endOf, barOf}
-use Rattle.sheet.specs.Sheet.{inBar}
+use Rattle.sheet.specs.Sheet.{Rule, division, leaf, Onset, Grammar, Playing, Sheet, Timing, TimedSheet, unitOf, unitIn, endOf}
+use Rattle.sheet.specs.Sheet.{barOf, inBar}
 use Rattle.sheet.specs.Outcome.{Outcome, refused, accepted, andThen}
 
 -- a demand: the number of the refusal where the test fails, and what comes after it where it holds; 0 is no refusal

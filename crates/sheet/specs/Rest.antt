@@ -35,7 +35,8 @@ unfolding readText badLine
 whole [] some fits = let f : ⊥ = omega arith in absurd f
 whole (b ∷ t) some fits = go (badFrom 1 first (b ∷ t)) refl
   where
-    go : (k : ℕ) → badFrom 1 first (b ∷ t) ≡ k → readSheet (b ∷ t) ≡ unlessBad (refused 2) k (readLines nothing 1 (lines (b ∷ t)))
+    go : (k : ℕ) → badFrom 1 first (b ∷ t) ≡ k
+        → readSheet (b ∷ t) ≡ unlessBad (refused 2) k (readLines nothing 1 (lines (b ∷ t)))
     go zero e = well-formed (b ∷ t) fits e
     go (suc k) e = ill-formed (b ∷ t) fits (suc k) (sym e) (λ z. omega arith)
 
@@ -72,7 +73,8 @@ module _ (t : List ℕ) (i : ℕ) (inside : i < length t) (l : Line) (is : l ≡
   small = subst (Every (Every (λ (x : ℕ). x < 256))) (lines-first (drop i t) some) (lines-small (drop i t)) .0
 
   -- it is well formed where its count is not 0
-  good : (l .count ≡ 0 → ⊥) → (formed (drop i t) ≡ true) × (lineRead t i ≡ packed (lineBytes (drop i t)) (i + lineSize (drop i t)))
+  good : (l .count ≡ 0 → ⊥)
+      → (formed (drop i t) ≡ true) × (lineRead t i ≡ packed (lineBytes (drop i t)) (i + lineSize (drop i t)))
   good filled = line-good t i (λ e. filled (ap (λ (x : Line). x .count) is ∙ e))
 
   -- its fields
@@ -97,7 +99,8 @@ module _ (t : List ℕ) (i : ℕ) (inside : i < length t) (l : Line) (is : l ≡
         ∙ sym (text-bad (refused 2) n (λ _. refused k n) (drop i t) some pos bad)
 
     -- it is refused: reading stops
-    pub rest-stop : (k : ℕ) → k ≡ refusal r (lineBytes (drop i t)) → (k ≡ 0 → ⊥) → readRest r n (drop i t) ≡ stopped k n (drop i t)
+    pub rest-stop : (k : ℕ) → k ≡ refusal r (lineBytes (drop i t)) → (k ≡ 0 → ⊥)
+        → readRest r n (drop i t) ≡ stopped k n (drop i t)
     rest-stop k e f =
         text-stop (refused 2) n (readLines r n) (drop i t) some (refused k n) (λ ls. read-stop r n (lineBytes (drop i t)) ls k e f)
 

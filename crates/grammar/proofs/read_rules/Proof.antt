@@ -121,7 +121,8 @@ bytes-of c =
     lineBytes (drop (at-loop .loop .at) (at-loop .before .before .args .text .now))
 
 fits : (c : tie.Else3 Inv-loop μ-loop)
-    → (line-place c .before .before .loop .table .count < 64) × (arityOf (bytes-of c) ≤ 8) × (line-place c .line-at .result .count ≤ 13)
+    → (line-place c .before .before .loop .table .count < 64)
+    × (arityOf (bytes-of c) ≤ 8) × (line-place c .line-at .result .count ≤ 13)
 fits c =
     let at-if3 = c in
     let at-refusal = at-if3 .before in

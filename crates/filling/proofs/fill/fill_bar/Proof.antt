@@ -60,9 +60,9 @@ element-copy-out-if2 c =
 
 slice-aggregate-fill-onset : tie.Need-slice-aggregate-fill-onset Inv-loop μ-loop
 slice-aggregate-fill-onset c =
-    let start = c .before .before .before .before .before .before .before .before .before in
-    let loop = c .before .before .before .before .loop in
-    sym (loop .inv _ (start .pre .1) .size)
+    let back = c .before .before .before .before in
+    let start = back .before .before .before .before .before in
+    sym (back .loop .inv _ (start .pre .1) .size)
 
 fill-onset-requires : tie.Need-fill-onset-requires Inv-loop μ-loop
 fill-onset-requires c κs =
