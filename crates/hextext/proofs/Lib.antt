@@ -3,4 +3,5 @@ pub mod DigitSteps
 pub mod FieldSteps
 pub mod LineSteps
 pub mod PackSteps
+pub mod SevenSteps
 pub mod WriteSteps

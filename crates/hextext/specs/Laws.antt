@@ -38,7 +38,7 @@ unfolding isDigit
 no-digit-low b h = simp (lt-leb 48 b h, lt-leb 65 b (omega arith))
 
 -- a pair spells a byte
-pair-small : (h l : ℕ) → pair h l < 256
+pub pair-small : (h l : ℕ) → pair h l < 256
 unfolding pair
 pair-small h l = omega (arith, value-small h, value-small l)
 

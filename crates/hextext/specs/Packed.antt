@@ -8,10 +8,14 @@ use lib.Dec.{eqb, ltb}
 use Rattle.hextext.specs.declared.line.Line.{Line}
 use Rattle.hextext.specs.Text.{isDigit, value, lineBytes, lineSize}
 
--- k times the value of a byte as a digit, and 256 for a byte that is none
+-- k times the value of a byte as a digit, and 65535 for a byte that is none
 unfoldable pub digitAt : (k b : ℕ) → ℕ
 unfolding isDigit value
-digitAt k b = cond (isDigit b) (value b * k) 256
+digitAt k b = cond (isDigit b) (value b * k) 65535
+
+-- two bytes of a text, from place i on, as a pair of digits
+abbrev pub pairAt : (t : List ℕ) (i : ℕ) → ℕ
+pairAt t i = digitAt 16 (getD t i 0) + digitAt 1 (getD t (i + 1) 0)
 
 -- the rule of the table of digits: each byte as the first digit of a pair, and behind these as the second
 abbrev pub DigitTable : List ℕ → Type 0

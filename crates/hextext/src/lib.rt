@@ -7,6 +7,7 @@ ghost use Rattle.hextext.specs.Written.{digitOf, LineWritten};
 
 mod field;
 mod line;
+mod seven;
 
 pub use field::put_field;
 pub use line::Digits;
@@ -16,6 +17,7 @@ pub use line::bad_from;
 pub use line::digit_table;
 pub use line::line_at;
 pub use line::no_line;
+pub use seven::seven_at;
 
 // The byte that closes a line.
 const CLOSE: u8 = 10;

@@ -11,12 +11,13 @@ use crate::CLOSE;
 use crate::digit_of;
 
 // How many values a byte has, and how many a digit.
-const BYTE_VALUES: usize = 256;
+pub const BYTE_VALUES: usize = 256;
 
 const DIGIT_VALUES: u8 = 16;
 
-// What stands in the table of digits for a byte that is none: with it no pair is below BYTE_VALUES.
-const NO_DIGIT: u16 = BYTE_VALUES as u16;
+// What stands in the table of digits for a byte that is none, the largest number of four digits: with it no pair is below BYTE_VALUES, and
+// no two pairs are below it.
+pub const NO_DIGIT: u16 = 65535;
 
 // How many bytes a number holds.
 pub const NUMBER_BYTES: usize = 8;
@@ -73,10 +74,10 @@ fn wide(x: u16) -> u64
     x as u64
 }
 
-// The byte that two digits spell; 256 or more where one of the bytes is no digit.
-fn pair_in(digits: &Digits, high: u8, low: u8) -> u64
+// The byte that two digits spell; NO_DIGIT or more where one of the bytes is no digit.
+pub fn pair_in(digits: &Digits, high: u8, low: u8) -> u64
     requires { ⌜ DigitTable (now digits) ⌝ }
-    ensures { λ r. ⌜ r ≡ digitAt 16 high + digitAt 1 low ⌝ }
+    ensures { λ r. ⌜ (r ≡ digitAt 16 high + digitAt 1 low) × (r < 131072) ⌝ }
 {
     let upper = wide(digits[high as usize]);
     let lower = wide(digits[BYTE_VALUES + (low as usize)]);

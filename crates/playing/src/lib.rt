@@ -14,7 +14,7 @@ mod onset;
 
 use hextext::Digits;
 use hextext::Line;
-use hextext::line_at;
+use hextext::seven_at;
 use onset::Latest;
 use onset::onset_step;
 use sheet::BARS_MOST;
@@ -113,7 +113,7 @@ fn read_onsets(
     let mut line = line;
     let mut n: usize = 0;
     while at < text.len() {
-        let l = line_at(digits, text, at);
+        let l = seven_at(digits, text, at);
         if l.count == 0 {
             return refused_take(2, line, at);
         }

@@ -30,8 +30,8 @@ loop-holds c =
     let pre = c .before .before .pre in
     onsets-none _ _ _ _ _ _ (pre .1) (pre .2) (pre .3) (pre .4) (c .no-onsets .ensures)
 
-line-at-requires : tie.Need-line-at-requires Inv-loop μ-loop
-line-at-requires c κs = search needs
+seven-at-requires : tie.Need-seven-at-requires Inv-loop μ-loop
+seven-at-requires c κs = search needs
 
 refused-take-requires : tie.Need-refused-take-requires Inv-loop μ-loop
 refused-take-requires c κs = search needs
@@ -42,7 +42,7 @@ returns c g =
     let at-line = at-if1 .before .before in
     let loop = at-line .before .before .loop in
     take-refused _ (c .refused-take .ensures) (λ z. omega arith) (loop .inv .line)
-    (onsets-bad (loop .inv) (search needs) _ (at-line .line-at .ensures) g (at-if1 .if1 .taken) 2)
+    (onsets-bad (loop .inv) (search needs) _ (at-line .seven-at .ensures) g (at-if1 .if1 .taken) 2)
 
 onset-step-requires : tie.Need-onset-step-requires Inv-loop μ-loop
 onset-step-requires c κs =
@@ -61,11 +61,11 @@ returns-2 c g =
     let at-line = at-if1 .before .before in
     let loop = at-line .before .before .loop in
     take-refused _ (c .refused-take2 .ensures) (at-if2 .if2 .taken) (loop .inv .line)
-    (onsets-stop (loop .inv) (search needs) _ (at-line .line-at .ensures) (at-if1 .if1 .left) (at-step .onset-step .result)
+    (onsets-stop (loop .inv) (search needs) _ (at-line .seven-at .ensures) (at-if1 .if1 .left) (at-step .onset-step .result)
     (at-step .onset-step .ensures) g (at-if2 .if2 .taken))
 
 -- a line's number is at most its place and one
-few-lines : (c : tie.After-line-at Inv-loop μ-loop) → c .before .before .loop .line < 18446744073709551615
+few-lines : (c : tie.After-seven-at Inv-loop μ-loop) → c .before .before .loop .line < 18446744073709551615
 few-lines c = omega (arith, c .before .before .loop .inv .line)
 
 -- where a line is taken as an onset there is room for it
@@ -75,7 +75,7 @@ room c =
     let at-if1 = at-step .before in
     let at-line = at-if1 .before .before in
     let loop = at-line .before .before .loop in
-    onsets-room (loop .inv) (search needs) _ (at-line .line-at .ensures) (at-if1 .if1 .left) (at-step .onset-step .result)
+    onsets-room (loop .inv) (search needs) _ (at-line .seven-at .ensures) (at-if1 .if1 .left) (at-step .onset-step .result)
     (at-step .onset-step .ensures) (c .if2 .left)
 
 mul-u : tie.Need-mul-u Inv-loop μ-loop
@@ -109,7 +109,7 @@ loop-less c =
     let at-if1 = at-step .before in
     let at-line = at-if1 .before .before in
     let loop = at-line .before .before .loop in
-    line-falls _ _ (search needs) _ (line-next _ _ _ (at-line .line-at .ensures) (at-if1 .if1 .left))
+    line-falls _ _ (search needs) _ (line-next _ _ _ (at-line .seven-at .ensures) (at-if1 .if1 .left))
 
 loop-again : tie.Need-loop-again Inv-loop μ-loop
 loop-again c =
@@ -118,7 +118,7 @@ loop-again c =
     let at-if1 = at-step .before in
     let at-line = at-if1 .before .before in
     let loop = at-line .before .before .loop in
-    onsets-more (loop .inv) (search needs) _ (at-line .line-at .ensures) (at-if1 .if1 .left) (at-step .onset-step .result)
+    onsets-more (loop .inv) (search needs) _ (at-line .seven-at .ensures) (at-if1 .if1 .left) (at-step .onset-step .result)
     (at-step .onset-step .ensures) (at-if2 .if2 .left) _ (c .before .byte-at .ensures) _ refl
 
 refused-take-requires-3 : tie.Need-refused-take-requires-3 Inv-loop μ-loop
@@ -156,7 +156,7 @@ read-onsets-spec =
     μ-loop
     no-onsets-requires
     loop-holds
-    line-at-requires
+    seven-at-requires
     refused-take-requires
     returns
     onset-step-requires

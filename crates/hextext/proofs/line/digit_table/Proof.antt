@@ -16,7 +16,7 @@ abbrev μ-loop : tie.MeasureT-loop
 μ-loop digits₀ n₀ digits n = 16 - n
 
 loop-holds : tie.Need-loop-holds Inv-loop μ-loop
-loop-holds c = (search needs, length-replicate {A = ℕ} 512 256, half-none 16 0 (omega arith), half-none 1 256 (omega arith))
+loop-holds c = (search needs, length-replicate {A = ℕ} 512 65535, half-none 16 0 (omega arith), half-none 1 256 (omega arith))
 
 digit-of-requires : tie.Need-digit-of-requires Inv-loop μ-loop
 digit-of-requires c κs = search needs

@@ -85,8 +85,8 @@ loop-again c =
     let at-pair = at-if2 .before in
     let at-loop = at-pair .before .before .before .before in
     let packs = at-loop .loop .inv in
-    packs-pair packs (search needs) _ (sym (at-pair .pair-in .ensures)) (search needs) _ (c .with-byte .ensures (packs .bs) (packs .is)) _
-    (omega arith)
+    packs-pair packs (search needs) _ (sym (at-pair .pair-in .ensures .0)) (search needs) _
+    (c .with-byte .ensures (packs .bs) (packs .is)) _ (omega arith)
 
 closed-requires-2 : tie.Need-closed-requires-2 Inv-loop μ-loop
 closed-requires-2 c κs = search needs

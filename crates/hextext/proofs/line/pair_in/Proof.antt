@@ -32,8 +32,10 @@ add-result c = search needs
 returns : tie.Need-returns
 returns c =
     let at-first = c .before .before in
-    let rule = at-first .before .before .pre in
-    λ j. (at-first .wide .ensures .0 ∙ rule _ (search needs) .0) j + (c .wide2 .ensures .0 ∙ rule _ (search needs) .1) j
+    let rule = at-first .before .before .pre in (
+      λ j. (at-first .wide .ensures .0 ∙ rule _ (search needs) .0) j + (c .wide2 .ensures .0 ∙ rule _ (search needs) .1) j,
+      search needs,
+    )
 
 pub pair-in-spec : {M : Type 1} → statement M
 pair-in-spec =
