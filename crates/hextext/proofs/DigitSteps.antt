@@ -12,7 +12,7 @@ use lib.Dec.{ltb}
 use borrow.Author.Tests.{lt-ltb, le-ltb}
 use Rattle.hextext.specs.Text.{isDigit, value, pair}
 use Rattle.hextext.specs.Written.{digitOf}
-use Rattle.hextext.specs.Packed.{digitAt, DigitTable}
+use Rattle.hextext.specs.Packed.{noDigit, digitAt, DigitTable}
 use Rattle.hextext.specs.Laws.{value-small}
 use Rattle.hextext.specs.WrittenLaws.{digit-back}
 use Rattle.hextext.specs.Formed.{digit-same, written-digit}
@@ -24,7 +24,7 @@ digit-is : (k b : ℕ) → isDigit b ≡ true → digitAt k b ≡ value b * k
 unfolding digitAt
 digit-is k b e = rw e refl
 
-digit-none : (k b : ℕ) → isDigit b ≡ false → digitAt k b ≡ 65535
+digit-none : (k b : ℕ) → isDigit b ≡ false → digitAt k b ≡ noDigit
 unfolding digitAt
 digit-none k b e = rw e refl
 
@@ -36,8 +36,8 @@ by-digit {P} b f g = go (isDigit b) refl
     go true e = f e
     go false e = g e
 
--- a number below 65535 says that both bytes of a pair are digits, and is the byte that they spell
-pub both-digits : (h l : ℕ) → digitAt 16 h + digitAt 1 l < 65535
+-- a number below `noDigit` says that both bytes of a pair are digits, and is the byte that they spell
+pub both-digits : (h l : ℕ) → digitAt 16 h + digitAt 1 l < noDigit
     → (isDigit h ≡ true) × (isDigit l ≡ true) × (digitAt 16 h + digitAt 1 l ≡ pair h l)
 unfolding pair
 both-digits h l k =
@@ -70,16 +70,20 @@ digit-of-most n h = go (ltb n 10)
 
 -- ---- the table of digits
 
--- k times the digits of the numbers below n stand in a table, from place p on
+-- the cell of byte b in a table of k times the digits, where those of the numbers below n have been set
+abbrev cell : (k n b : ℕ) → ℕ
+cell k n b = cond (isDigit b && ltb (value b) n) (value b * k) noDigit
+
+-- these cells stand in a table, from place p on
 pub Half : (k p n : ℕ) → List ℕ → Type 0
-Half k p n digits = (b : ℕ) → b < 256 → getD digits (p + b) 0 ≡ cond (isDigit b && ltb (value b) n) (value b * k) 65535
+Half k p n digits = (b : ℕ) → b < 256 → getD digits (p + b) 0 ≡ cell k n b
 
 -- none yet
-pub half-none : (k p : ℕ) → p ≤ 256 → Half k p 0 (replicate 512 65535)
+pub half-none : (k p : ℕ) → p ≤ 256 → Half k p 0 (replicate 512 noDigit)
 unfolding Half
-half-none k p w b h = getD-replicate {A = ℕ} 512 (p + b) 65535 0 (omega arith) ∙ go (isDigit b)
+half-none k p w b h = getD-replicate {A = ℕ} 512 (p + b) noDigit 0 (omega arith) ∙ go (isDigit b)
   where
-    go : (d : Bool) → 65535 ≡ cond (d && ltb (value b) 0) (value b * k) 65535
+    go : (d : Bool) → noDigit ≡ cond (d && ltb (value b) 0) (value b * k) noDigit
     go true = rw (le-ltb (value b) 0 (omega arith)) refl
     go false = refl
 
@@ -95,17 +99,16 @@ pub half-more : (k p n : ℕ) (digits : List ℕ) (i : ℕ) → i ≡ p + digitO
 unfolding Half
 half-more k p n digits i ei h room m b l = go (ℕ-discrete b (digitOf n))
   where
-    go : Dec (b ≡ digitOf n) → getD (set digits i (n * k)) (p + b) 0 ≡ cond (isDigit b && ltb (value b) (n + 1)) (value b * k) 65535
+    go : Dec (b ≡ digitOf n) → getD (set digits i (n * k)) (p + b) 0 ≡ cell k (n + 1) b
     go (yes e) =
-        subst (λ (x : ℕ). getD (set digits i (n * k)) (p + x) 0 ≡ cond (isDigit x && ltb (value x) (n + 1)) (value x * k) 65535) (sym e)
+        subst (λ (x : ℕ). getD (set digits i (n * k)) (p + x) 0 ≡ cell k (n + 1) x) (sym e)
         (ap (λ (x : ℕ). getD (set digits i (n * k)) x 0) (sym ei) ∙ getD-set-same digits i (n * k) 0 room
         ∙ rw (written-digit n h, digit-back n h, lt-ltb n (n + 1) (omega arith)) refl)
     go (no f) =
         getD-set-other digits i (p + b) (n * k) 0 (λ e. f (omega (arith, ei)))
         ∙ m b l ∙ by-digit b (λ d. same d (decLt (value b) n)) (λ d. rw d refl)
       where
-        same : isDigit b ≡ true → Dec (value b < n)
-            → cond (isDigit b && ltb (value b) n) (value b * k) 65535 ≡ cond (isDigit b && ltb (value b) (n + 1)) (value b * k) 65535
+        same : isDigit b ≡ true → Dec (value b < n) → cell k n b ≡ cell k (n + 1) b
         same d (yes i) = rw (d, lt-ltb (value b) n i, lt-ltb (value b) (n + 1) (omega arith)) refl
         same d (no i) =
             let g : value b ≡ n → ⊥ = λ e. f (sym (digit-same b d) ∙ ap digitOf e) in

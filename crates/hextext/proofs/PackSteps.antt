@@ -13,7 +13,7 @@ use Rattle.slices.specs.Lookup.{drop-step}
 use Rattle.slices.specs.Test.{and-both}
 use Rattle.hextext.specs.declared.line.Line.{Line}
 use Rattle.hextext.specs.Text.{isDigit, lineBytes, lineSize}
-use Rattle.hextext.specs.Packed.{digitAt, formedFrom, formed, packed, noLine, orNone, lineRead, hasByte, closes, closedLine}
+use Rattle.hextext.specs.Packed.{noDigit, pairAt, formedFrom, formed, packed, noLine, orNone, lineRead, hasByte, closes, closedLine}
 use Rattle.hextext.specs.Laws.{bytes-closed, size-closed}
 use Rattle.hextext.specs.OnePass.{form-close, form-pair, no-digit-10}
 use Rattle.hextext.proofs.LineSteps.{Ahead, ahead-none, ahead-all, ahead-pair, two-steps}
@@ -58,17 +58,14 @@ closes-at t i h = rw (drop-step t i h) refl
 
 -- ---- a line in the course of reading
 
--- of the line that starts at `at`, the bytes in front of place i are packed in l, and whether it is well formed shows in what is left
-pub record Packs (text : List ℕ) (at : ℕ) (l : Line) (i : ℕ) : Type 0 where
-  pub bs : List ℕ
-  pub is : l ≡ packed bs 0
+-- of the line that starts at `at`, the bytes bs in front of place i have been read, and whether it is well formed shows in what is left
+pub record Spelled (text : List ℕ) (at : ℕ) (bs : List ℕ) (i : ℕ) : Type 0 where
   pub ahead : Ahead text at bs i
   pub form : formed (drop at text) ≡ formedFrom (hasByte bs) (drop i text)
 
 -- none
-pub packs-none : (text : List ℕ) (at : ℕ) → Packs text at noLine at
-unfolding packed
-packs-none text at = record { bs = []; is = refl; ahead = ahead-none text at; form = refl }
+pub spelled-none : (text : List ℕ) (at : ℕ) → Spelled text at [] at
+spelled-none text at = record { ahead = ahead-none text at; form = refl }
 
 byte-more : (bs : List ℕ) (b : ℕ) → hasByte (bs ++ (b ∷ [])) ≡ true
 byte-more [] b = refl
@@ -82,72 +79,91 @@ none-false : (c : Bool) → false ≡ (c && false)
 none-false true = refl
 none-false false = refl
 
--- at the end of the text
-pub no-pair-end : (t : List ℕ) (i : ℕ) → length t ≤ i + 1 → NoPair (drop i t)
-unfolding formedFrom
-no-pair-end t i h c = go (decLt i (length t))
-  where
-    go : Dec (i < length t) → formedFrom c (drop i t) ≡ (c && closes (drop i t))
-    go (yes l) =
-        let here : drop i t ≡ getD t i 0 ∷ [] = rw (drop-step t i l, drop-of-length-le t {i = i + 1} (omega arith)) in
-        rw here refl
-    go (no l) = rw (drop-of-length-le t {i = i} (omega arith)) (none-false c)
+and-true : (c : Bool) → c ≡ (c && true)
+and-true true = refl
+and-true false = refl
 
--- at two bytes that are not both digits
-pub no-pair-two : (t : List ℕ) (i : ℕ) → i + 1 < length t → (isDigit (getD t i 0) && isDigit (getD t (i + 1) 0)) ≡ false
-    → NoPair (drop i t)
-no-pair-two t i h e c = rw (two-steps t i h) (go (ℕ-discrete (getD t i 0) 10))
-  where
-    go : Dec (getD t i 0 ≡ 10)
-        → formedFrom c (getD t i 0 ∷ getD t (i + 1) 0 ∷ drop (i + 1 + 1) t)
-        ≡ (c && eqb (getD t i 0) 10)
-    go (yes k) = form-close c (getD t i 0) _ k ∙ rw (eq-eqb (getD t i 0) 10 k) (and-true c)
-      where
-        and-true : (x : Bool) → x ≡ (x && true)
-        and-true true = refl
-        and-true false = refl
-    go (no f) = form-pair c (getD t i 0) (getD t (i + 1) 0) _ f ∙ rw (e, ne-eqb (getD t i 0) 10 f) (none-false c)
+module _ (t : List ℕ) (i : ℕ) where
+  -- at the end of the text
+  pub no-pair-end : length t ≤ i + 1 → NoPair (drop i t)
+  unfolding formedFrom
+  no-pair-end h c = go (decLt i (length t))
+    where
+      go : Dec (i < length t) → formedFrom c (drop i t) ≡ (c && closes (drop i t))
+      go (yes l) =
+          let here : drop i t ≡ getD t i 0 ∷ [] = rw (drop-step t i l, drop-of-length-le t {i = i + 1} (omega arith)) in
+          rw here refl
+      go (no l) = rw (drop-of-length-le t {i = i} (omega arith)) (none-false c)
+
+  -- at byte 0A
+  pub no-pair-close : i < length t → getD t i 0 ≡ 10 → NoPair (drop i t)
+  no-pair-close h e c = rw (drop-step t i h) (form-close c (getD t i 0) _ e ∙ rw (eq-eqb (getD t i 0) 10 e) (and-true c))
+
+  -- at two bytes that are not both digits
+  pub no-pair-two : i + 1 < length t → (isDigit (getD t i 0) && isDigit (getD t (i + 1) 0)) ≡ false → NoPair (drop i t)
+  no-pair-two h e c = go (ℕ-discrete (getD t i 0) 10)
+    where
+      go : Dec (getD t i 0 ≡ 10) → formedFrom c (drop i t) ≡ (c && closes (drop i t))
+      go (yes k) = no-pair-close (omega arith) k c
+      go (no f) =
+          rw (two-steps t i h)
+          (form-pair c (getD t i 0) (getD t (i + 1) 0) _ f ∙ rw (e, ne-eqb (getD t i 0) 10 f) (none-false c))
 
 -- a line that what is left closes
 closing : (u : List ℕ) → closes u ≡ true → (lineBytes u ≡ []) × (lineSize u ≡ 1)
 closing [] e = absurd (false≢true e)
 closing (h ∷ t) e = let k = eqb-true h 10 e in (bytes-closed h k t, size-closed h k t)
 
-module _ {text : List ℕ} {at : ℕ} {l : Line} {i : ℕ} (p : Packs text at l i) where
-  -- as many bytes as pairs of the text
-  pub packs-count : l .count ≤ i
-  unfolding packed
-  packs-count = omega (arith, ap (λ (x : Line). x .count) (p .is), p .ahead .place)
-
+module _ {text : List ℕ} {at : ℕ} {bs : List ℕ} {i : ℕ} (p : Spelled text at bs i) where
   -- the line ends
-  pub packs-end : NoPair (drop i text) → (r : Line) → r ≡ closedLine (p .bs) i (drop i text) → r ≡ lineRead text at
+  pub spelled-end : NoPair (drop i text) → closedLine bs i (drop i text) ≡ lineRead text at
   unfolding closedLine lineRead
-  packs-end none r e = e ∙ go (hasByte (p .bs) && closes (drop i text)) refl (p .form ∙ none (hasByte (p .bs)))
+  spelled-end none = go (hasByte bs && closes (drop i text)) refl (p .form ∙ none (hasByte bs))
     where
-      go : (x : Bool) → (hasByte (p .bs) && closes (drop i text)) ≡ x
-          → formed (drop at text) ≡ (hasByte (p .bs) && closes (drop i text))
-          → orNone (hasByte (p .bs) && closes (drop i text)) (packed (p .bs) (i + 1))
+      go : (x : Bool) → (hasByte bs && closes (drop i text)) ≡ x → formed (drop at text) ≡ (hasByte bs && closes (drop i text))
+          → orNone (hasByte bs && closes (drop i text)) (packed bs (i + 1))
           ≡ orNone (formed (drop at text)) (packed (lineBytes (drop at text)) (at + lineSize (drop at text)))
       go true z f =
-          let c = closing (drop i text) (and-both (hasByte (p .bs)) (closes (drop i text)) z .1) in
+          let c = closing (drop i text) (and-both (hasByte bs) (closes (drop i text)) z .1) in
           let b = ahead-all (p .ahead) (c .0) in
           let s : i + 1 ≡ at + lineSize (drop at text) = omega (arith, c .1, p .ahead .size) in
           rw (f, z) (λ j. packed (sym b j) (s j))
       go false z f = rw (f, z) refl
 
   -- a pair is next
-  pub packs-pair : i + 1 < length text → (b : ℕ) → digitAt 16 (getD text i 0) + digitAt 1 (getD text (i + 1) 0) ≡ b → b < 256
-      → (m : Line) → m ≡ packed (p .bs ++ (b ∷ [])) 0 → (k : ℕ) → k ≡ i + 1 + 1 → Packs text at m k
-  packs-pair h b e small m is k ek =
+  pub spelled-pair : i + 1 < length text → (b : ℕ) → pairAt text i ≡ b → b < noDigit → (k : ℕ) → k ≡ i + 1 + 1
+      → Spelled text at (bs ++ (b ∷ [])) k
+  spelled-pair h b e small k ek =
       let q = both-digits (getD text i 0) (getD text (i + 1) 0) (omega arith) in
       let f = no-digit-10 (getD text i 0) (q .0) in
       let rest = drop (i + 1 + 1) text in
       rw ek (record {
-        bs = p .bs ++ (b ∷ []);
-        is = is;
         ahead = ahead-pair (p .ahead) h f b (sym e ∙ q .2);
         form =
-            p .form ∙ ap (formedFrom (hasByte (p .bs))) (two-steps text i h)
-            ∙ form-pair (hasByte (p .bs)) (getD text i 0) (getD text (i + 1) 0) rest f
-            ∙ rw (q .0, q .1, byte-more (p .bs) b) refl;
+            p .form ∙ ap (formedFrom (hasByte bs)) (two-steps text i h)
+            ∙ form-pair (hasByte bs) (getD text i 0) (getD text (i + 1) 0) rest f
+            ∙ rw (q .0, q .1, byte-more bs b) refl;
       })
+
+-- these bytes are packed in l
+pub record Packs (text : List ℕ) (at : ℕ) (l : Line) (i : ℕ) : Type 0 where
+  pub bs : List ℕ
+  pub is : l ≡ packed bs 0
+  pub spelled : Spelled text at bs i
+
+-- none
+pub packs-none : (text : List ℕ) (at : ℕ) → Packs text at noLine at
+unfolding packed
+packs-none text at = record { bs = []; is = refl; spelled = spelled-none text at }
+
+module _ {text : List ℕ} {at : ℕ} {l : Line} {i : ℕ} (p : Packs text at l i) where
+  -- as many bytes as pairs of the text
+  pub packs-count : l .count ≤ i
+  unfolding packed
+  packs-count = omega (arith, ap (λ (x : Line). x .count) (p .is), p .spelled .ahead .place)
+
+  -- a pair is next
+  pub packs-pair : i + 1 < length text → (b : ℕ) → pairAt text i ≡ b → b < noDigit → (m : Line) → m ≡ packed (p .bs ++ (b ∷ [])) 0
+      → (k : ℕ) → k ≡ i + 1 + 1 → Packs text at m k
+  packs-pair h b e small m is k ek =
+      record { bs = p .bs ++ (b ∷ []); is = is; spelled = spelled-pair (p .spelled) h b e small k ek }

@@ -8,10 +8,14 @@ use lib.Dec.{eqb, ltb}
 use Rattle.hextext.specs.declared.line.Line.{Line}
 use Rattle.hextext.specs.Text.{isDigit, value, lineBytes, lineSize}
 
--- k times the value of a byte as a digit, and 65535 for a byte that is none
+-- what stands for a byte that is no digit: the largest number of four digits
+abbrev pub noDigit : ℕ
+noDigit = 65535
+
+-- k times the value of a byte as a digit
 unfoldable pub digitAt : (k b : ℕ) → ℕ
 unfolding isDigit value
-digitAt k b = cond (isDigit b) (value b * k) 65535
+digitAt k b = cond (isDigit b) (value b * k) noDigit
 
 -- two bytes of a text, from place i on, as a pair of digits
 abbrev pub pairAt : (t : List ℕ) (i : ℕ) → ℕ

@@ -14,14 +14,14 @@ use crate::line::pair_in;
 // How many bytes it has, and how many digits stand before the 0A that closes it.
 const BYTES: usize = 7;
 
-const DIGITS: usize = 14;
+const DIGITS: usize = 2 * BYTES;
 
 // Where its digits are looked up: four from its start on, four, four and two.
 const SECOND: usize = 4;
 
-const THIRD: usize = 8;
+const THIRD: usize = 2 * SECOND;
 
-const LAST: usize = 12;
+const LAST: usize = 3 * SECOND;
 
 // How many numbers four digits spell.
 const FOUR_DIGITS: u64 = 65536;

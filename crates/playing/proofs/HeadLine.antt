@@ -14,7 +14,7 @@ use Rattle.sheet.specs.Reading.{byte, four, playingRefusal, playingOf, timingOf
 use Rattle.sheet.specs.Rest.{readRest, stopped, rest-stop, rest-held, rest-on}
 use Rattle.sheet.specs.Held.{LineHeld, noPlaying}
 use Rattle.sheet.specs.SoFar.{GoodSoFar}
-use Rattle.sheet.specs.GoodLaws.{good-start}
+use Rattle.sheet.specs.GoodLines.{good-start}
 use Rattle.playing.specs.Contracts.{TakeRead, OnsetsRead}
 
 -- the timing and the bars of the line, from the code's numbers

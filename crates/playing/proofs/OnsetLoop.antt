@@ -24,7 +24,7 @@ use Rattle.sheet.specs.SoFar.{GoodSoFar}
 use Rattle.playing.specs.Contracts.{latestOf, OnsetStepped, TakeRead}
 use Rattle.sheet.specs.Clock.{first-bar}
 use Rattle.sheet.specs.Laws.{cond-zero, onset-passed, end-without, end-with}
-use Rattle.sheet.specs.GoodLaws.{good-onset}
+use Rattle.sheet.specs.GoodLines.{good-onset}
 use Rattle.playing.proofs.Tables.{onset-stored}
 
 -- of the lines from line n, at place `at`, on, those before line n′, at place at′, have been read as k onsets

@@ -19,7 +19,7 @@ use Rattle.sheet.specs.Clock.{div-mono, unit-mono}
 use Rattle.sheet.specs.Laws.{first-met, first-failed, moment-passed}
 use Rattle.playing.specs.Contracts.{latestOf, runIn, OnsetStepped}
 use Rattle.sheet.specs.SoFar.{GoodSoFar}
-use Rattle.sheet.specs.GoodLaws.{in-bar-more}
+use Rattle.sheet.specs.GoodLines.{in-bar-more}
 
 -- no onset is in a bar behind all of theirs
 in-bar-none : (b : ℕ) (os : List Onset) → Every (λ (o : Onset). barOf (o .unit) < b) os → inBar b os ≡ 0

@@ -119,8 +119,7 @@ pub record CutVector (s : Sheet) (v : List ℕ) : Type 0 where
   pub reached : getD v 0 0 < NONE
   pub idle : (c : ℕ) → 0 < c → c < carries → Idle s 1 (λ i. getD v i 0) c
 
--- The bars before bar e are one search of their own, where nothing is carried on to bar e. Some least list of theirs may pass carry state c
--- before bar b.
+-- some least list of the bars before bar e, of those that carry nothing on to bar e, may pass carry state c before bar b
 abbrev pub OnPath : Sheet → (e b c : ℕ) → Type 0
 OnPath s e b c = prefixCosts s b c + barSuffixCosts s e b c ≤ prefixCosts s e 0
 
@@ -212,8 +211,7 @@ FoundIn s tree (Tree n total) = Committed s tree (s .playing .bars) n × (total 
 
 -- ---- a sheet
 
--- what the search gives: no total is below the cap, and the tree is kept; or so many bytes at the tree's front are the first least tree,
--- with its total
+-- what the search gives: no total is below the cap, and the tree is kept; or n bytes at its front are the first least tree, of this total
 abbrev pub FoundAs : Sheet → (tree after : List ℕ) → Found → Type 0
 FoundAs s tree after NoTree = (NONE ≤ leastTotal s) × (after ≡ tree)
 FoundAs s tree after (Tree n total) =

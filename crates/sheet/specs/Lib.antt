@@ -7,6 +7,7 @@ pub mod Children
 pub mod Good
 pub mod SoFar
 pub mod Laws
+pub mod GoodLines
 pub mod GoodLaws
 pub mod Bounds
 pub mod Numbers

@@ -16,7 +16,7 @@ use Rattle.sheet.specs.Sheet.{Onset, Playing, barUnits, barOf, inBar}
 use Rattle.sheet.specs.Held.{playingTable, units, unitsOf}
 use Rattle.sheet.specs.Good.{Rising, GoodOnsets}
 use Rattle.sheet.specs.Clock.{div-mono}
-use Rattle.sheet.specs.GoodLaws.{in-bar-more}
+use Rattle.sheet.specs.GoodLines.{in-bar-more}
 use Rattle.sizes.specs.Sizes.{largest, mostInBar}
 use Rattle.sizes.specs.Members.{by-equal}
 

@@ -5,6 +5,7 @@ use mathlib.Core.Path.{_≡_, subst, _∙_}
 use native.Mathlib.Omega.{arith}
 use lib.ListN.{length, set, length-replicate, length-set}
 use borrow.Author.Needs.{needs}
+use Rattle.hextext.specs.Packed.{noDigit}
 use Rattle.hextext.proofs.DigitSteps.{Half, half-none, half-other, half-more, made-all, digit-of-most}
 use Rattle.hextext.proofs.line.digit_table.Statement.{statement}
 use Rattle.hextext.proofs.line.digit_table.Tie as tie
@@ -16,7 +17,7 @@ abbrev μ-loop : tie.MeasureT-loop
 μ-loop digits₀ n₀ digits n = 16 - n
 
 loop-holds : tie.Need-loop-holds Inv-loop μ-loop
-loop-holds c = (search needs, length-replicate {A = ℕ} 512 65535, half-none 16 0 (omega arith), half-none 1 256 (omega arith))
+loop-holds c = (search needs, length-replicate {A = ℕ} 512 noDigit, half-none 16 0 (omega arith), half-none 1 256 (omega arith))
 
 digit-of-requires : tie.Need-digit-of-requires Inv-loop μ-loop
 digit-of-requires c κs = search needs

@@ -5,7 +5,7 @@ use mathlib.Core.Path.{sym, _∙_}
 use native.Mathlib.Omega.{arith}
 use lib.ListN.{length, getD}
 use borrow.Author.Needs.{needs}
-use Rattle.hextext.proofs.PackSteps.{Packs, packs-none, packs-end, packs-pair, packs-count, no-pair-end, no-pair-two}
+use Rattle.hextext.proofs.PackSteps.{Packs, packs-none, packs-pair, packs-count, spelled-end, no-pair-end, no-pair-two}
 use Rattle.hextext.proofs.DigitSteps.{pair-other}
 use Rattle.hextext.specs.PackedLaws.{line-none}
 use Rattle.hextext.proofs.line.line_at.Statement.{statement}
@@ -62,7 +62,7 @@ returns-2 c =
     let i = at-loop .loop .i in
     let packs = at-loop .loop .inv in
     let other = pair-other (getD text i 0) (getD text (i + 1) 0) (omega (arith, at-pair .pair-in .ensures)) in
-    packs-end packs (no-pair-two text i (search needs) other) _ (c .closed .ensures (packs .bs) (packs .is))
+    c .closed .ensures (packs .bs) (packs .is) ∙ spelled-end (packs .spelled) (no-pair-two text i (search needs) other)
 
 cast-with-byte : tie.Need-cast-with-byte Inv-loop μ-loop
 cast-with-byte c = search needs
@@ -97,8 +97,8 @@ returns-3 c =
     let at-loop = c .before .before in
     let at-start = at-loop .before .before .before .before in
     let packs = at-loop .loop .inv in
-    packs-end packs (no-pair-end (at-start .args .text .now) (at-loop .loop .i) (search needs)) _
-    (c .closed2 .ensures (packs .bs) (packs .is))
+    c .closed2 .ensures (packs .bs) (packs .is)
+    ∙ spelled-end (packs .spelled) (no-pair-end (at-start .args .text .now) (at-loop .loop .i) (search needs))
 
 pub line-at-spec : {M : Type 1} → statement M
 line-at-spec =
