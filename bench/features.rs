@@ -1,6 +1,7 @@
 //! What the sheets met that a search can get wrong, counted by the trees handed
 //! back.
 
+use crate::harness::{print_counted, Counted};
 use crate::heads::Heads;
 use crate::peer::{self, Sheet, BAR_UNITS, REST};
 use crate::trees;
@@ -106,10 +107,9 @@ impl Features {
 
     pub fn print(&self) {
         println!("  trees handed back: {}, of which", self.trees);
-        for (feature, count) in self.equals.named().into_iter().chain(self.heads.named()) {
-            println!("    {count:>6} {feature}");
-        }
-        for (feature, count) in [
+        print_counted(&self.equals.named());
+        print_counted(&self.heads.named());
+        print_counted(&[
             ("carry over a part's bound", self.over_part),
             ("carry over a bar line", self.over_bar),
             ("carry two or three over a bar line", self.two_over_bar),
@@ -123,9 +123,7 @@ impl Features {
             ("have multiplier 0", self.no_multiplier),
             ("have multiplier 65,535", self.largest_multiplier),
             ("have three divisions a head or more", self.dense),
-        ] {
-            println!("    {count:>6} {feature}");
-        }
+        ]);
         for (arity, count) in self.arities.iter().enumerate().skip(2) {
             println!("    {count:>6} divide by {arity}");
         }
@@ -165,7 +163,7 @@ impl Equals {
         self.other_carry += usize::from(carries[0] != carries[1]);
     }
 
-    fn named(&self) -> [(&'static str, usize); 5] {
+    fn named(&self) -> [Counted; 5] {
         [
             ("are the first of several least trees", self.several),
             ("are longer than the last of them", self.first_longer),

@@ -6,6 +6,7 @@
 use crate::features::Features;
 use crate::harness::{dirt, same, Difference, Outcomes};
 use crate::peer::{self, Sheet};
+use crate::rounded::Rounded;
 use crate::search::Search;
 use crate::sheets::{Case, Dice};
 use crate::trees::{self, Price};
@@ -19,7 +20,8 @@ pub const NO_TREE: u8 = 11;
 const AROUND: usize = 16;
 
 /// Gives whether no difference was found, every outcome occurred, enough trees were
-/// the first of several, and the rules of heads stood in every way that is counted.
+/// the first of several, the rules of heads stood in every way that is counted, and
+/// onsets were rounded in every such way.
 pub fn run(seed: u64, sheets: usize) -> bool {
     println!("Comparing trees found by the library and the peer on {sheets} sheets, seed {seed}.");
     let Some(counts) = compare_all(seed, sheets) else {
@@ -28,14 +30,18 @@ pub fn run(seed: u64, sheets: usize) -> bool {
     println!("No difference. By outcome:");
     counts.outcomes.print();
     counts.features.print();
+    counts.rounded.print();
     timing::time_all();
     let outcomes = counts.outcomes.all_met();
-    counts.features.all_met() && outcomes
+    let rounded = counts.rounded.all_met();
+    counts.features.all_met() && outcomes && rounded
 }
 
 struct Counts {
     outcomes: Outcomes,
     features: Features,
+    /// Of the sheets that have a tree.
+    rounded: Rounded,
 }
 
 /// Stops at the first difference and prints it.
@@ -46,6 +52,7 @@ fn compare_all(seed: u64, sheets: usize) -> Option<Counts> {
     let mut counts = Counts {
         outcomes: Outcomes::new("calls", numbers),
         features: Features::default(),
+        rounded: Rounded::default(),
     };
     for at in 1..=sheets {
         let case = takes::case(&mut dice);
@@ -113,6 +120,7 @@ fn compare(
     if let [0, .., total] = expected.answer {
         let last = last_least(search, &mut sheet, total)?;
         counts.features.add(&sheet, &expected.tree, &last);
+        counts.rounded.add(&case.text);
     }
     let lengths = (longer(dice, bytes), longer(dice, cells));
     compare_call(dice, &case.text, lengths, &expected, &mut counts.outcomes)?;

@@ -103,6 +103,25 @@ impl Outcomes {
     }
 }
 
+/// What sheets or trees show, and how many of them do.
+pub type Counted = (&'static str, usize);
+
+pub fn print_counted(counted: &[Counted]) {
+    for (feature, count) in counted {
+        println!("    {count:>6} {feature}");
+    }
+}
+
+/// Gives whether everything occurred, and prints what did not.
+pub fn all_occurred(name: &str, counted: &[Counted]) -> bool {
+    let missing = counted.iter().filter(|(_, count)| *count == 0);
+    let missing: Vec<&str> = missing.map(|(feature, _)| *feature).collect();
+    if !missing.is_empty() {
+        eprintln!("{name}: {missing:?} did not occur: take more.");
+    }
+    missing.is_empty()
+}
+
 pub fn how_timed() -> String {
     format!("the best of {TIMED_RUNS} runs of {REPETITIONS} repetitions each")
 }

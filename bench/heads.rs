@@ -1,6 +1,7 @@
 //! How the rules of the heads stand in the sheets met, counted by the trees handed
 //! back: a search that keeps rules by their head meets all of these.
 
+use crate::harness::{all_occurred, Counted};
 use crate::lists::{head, is_division};
 use crate::peer::Sheet;
 use crate::sheets::MAX_RULES;
@@ -38,7 +39,7 @@ impl Heads {
         self.full += usize::from(heads.len() == MAX_RULES);
     }
 
-    pub fn named(&self) -> [(&'static str, usize); 8] {
+    pub fn named(&self) -> [Counted; 8] {
         [
             ("have rules of a head apart", self.apart),
             ("divide by a rule of such a head", self.apart_divide),
@@ -65,13 +66,7 @@ impl Heads {
 
     /// Gives whether everything occurred, and prints what did not.
     pub fn all_met(&self) -> bool {
-        let named = self.named();
-        let missing = named.iter().filter(|(_, count)| *count == 0);
-        let missing: Vec<&str> = missing.map(|(feature, _)| *feature).collect();
-        if !missing.is_empty() {
-            eprintln!("trees: {missing:?} did not occur: take more.");
-        }
-        missing.is_empty()
+        all_occurred("trees", &self.named())
     }
 }
 

@@ -124,14 +124,14 @@ fn sheets_of_the_documents() {
     let equal = equal.join("\n") + "\n" + &onset(500_000) + "\n";
     let cases: [(String, Option<(u64, &[u8])>); 11] = [
         (with(8, &[]), Some((1_088, &[1, 3, 3]))),
-        (one(499_999), Some((5_049, &[0]))),
+        (one(499_999), Some((5_050, &[0]))),
         (one(500_000), Some((5_050, &[0]))),
-        (one(999_999), Some((10_089, &[0]))),
+        (one(999_999), None),
         (one(1_000_000), None),
-        (with(5, &two_bars), Some((21, &[0, 0]))),
+        (with(5, &two_bars), Some((20, &[0, 0]))),
         (with(7, &[s[6]]), None),
         (with_rest(500_000), Some((5_050, &[0]))),
-        (with_rest(999_999), Some((91, &[1, 4, 3]))),
+        (with_rest(999_999), Some((90, &[1, 4, 3]))),
         (with_rest(1_000_000), Some((90, &[1, 4, 3]))),
         (equal, Some((5_040, &[0]))),
     ];

@@ -3,6 +3,7 @@
 //! that are hardly trees at all, and lists beside refused texts; and two fixed
 //! trees for timing.
 
+use crate::moments::{self, any_time_of, time_of};
 use crate::peer::{self, Rule, Sheet, BAR_UNITS};
 use crate::sheets::{self, Dice, Outcome, REST};
 use crate::trees::NO_TREE;
@@ -90,17 +91,45 @@ fn plain_grammar(dice: &mut Dice, nonterminals: usize, arities: &[usize]) -> Vec
     lines
 }
 
-/// The text of a grammar and onsets at units, which are in order.
+/// The text of a grammar and onsets at units, which are in order, each at some time of
+/// its unit.
 pub fn played(
     dice: &mut Dice,
-    mut lines: Vec<Vec<u8>>,
+    lines: Vec<Vec<u8>>,
     bars: usize,
     duration: usize,
     units: &[usize],
 ) -> Vec<u8> {
+    let times = units.iter().map(|&unit| any_time_of(dice, unit, duration));
+    let mut times: Vec<usize> = times.collect();
+    // Of onsets at one unit a later one may have an earlier time.
+    times.sort_unstable();
+    played_at(dice, lines, bars, duration, &times)
+}
+
+/// The same with each onset at the first time of its unit. Nothing is thrown for a
+/// time, so that the fixed sheets have the other lines that they always had.
+pub fn played_first(
+    dice: &mut Dice,
+    lines: Vec<Vec<u8>>,
+    bars: usize,
+    duration: usize,
+    units: &[usize],
+) -> Vec<u8> {
+    let times = units.iter().map(|&unit| time_of(unit, duration));
+    played_at(dice, lines, bars, duration, &times.collect::<Vec<usize>>())
+}
+
+fn played_at(
+    dice: &mut Dice,
+    mut lines: Vec<Vec<u8>>,
+    bars: usize,
+    duration: usize,
+    times: &[usize],
+) -> Vec<u8> {
     lines.push(sheets::playing_head(bars, duration));
-    for &unit in units {
-        lines.push(sheets::onset(dice, time_of(unit, duration)));
+    for &time in times {
+        lines.push(sheets::onset(dice, time));
     }
     sheets::text_of(&lines)
 }
@@ -110,16 +139,8 @@ pub fn duration(dice: &mut Dice) -> usize {
     match dice.below(4) {
         0 => BAR_UNITS as usize,
         1 => 100 * BAR_UNITS as usize,
-        _ => sheets::duration(dice),
+        _ => moments::duration(dice),
     }
-}
-
-/// The first time at a unit. A bar shorter than its units has none for some of
-/// them; then a later time of the same bar, or the bar's last.
-fn time_of(unit: usize, duration: usize) -> usize {
-    let time = (unit * duration).div_ceil(BAR_UNITS as usize);
-    let bar_end = (unit / BAR_UNITS as usize + 1) * duration;
-    time.min(bar_end - 1)
 }
 
 /// Units in order, at most 32 in a bar, now and then several at one place. Often
@@ -710,7 +731,7 @@ fn fixed(
         let mut dice = Dice::new(seed);
         let lines = plain_grammar(&mut dice, 2, arities);
         let units = units_by_bar(&mut dice, bars, units_of_bar);
-        let text = played(&mut dice, lines, bars, 1_987_654, &units);
+        let text = played_first(&mut dice, lines, bars, 1_987_654, &units);
         let list = grown_to(&mut dice, &accepted(&text), None, shortest, NEVER)?;
         Some((text, list))
     };

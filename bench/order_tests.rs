@@ -8,7 +8,7 @@ use crate::lists::{head, is_division};
 use crate::orders::{mix, Order};
 use crate::peer::{self, Rule, Sheet};
 use crate::search::Search;
-use crate::sheets::{text_of, Dice, MAX_RULES};
+use crate::sheets::{lines_of, text_of, Dice, MAX_RULES};
 use crate::{takes, tunes};
 use std::collections::BTreeMap;
 
@@ -18,21 +18,10 @@ fn read(text: &[u8]) -> Sheet {
     peer::read(text).expect("the sheet is accepted")
 }
 
-/// The bytes of each line.
-fn lines(text: &[u8]) -> Vec<Vec<u8>> {
-    let text = std::str::from_utf8(text).expect("a text is digits");
-    let byte = |pair: &[u8]| {
-        let pair = std::str::from_utf8(pair).expect("a pair is digits");
-        u8::from_str_radix(pair, 16).expect("a pair is digits")
-    };
-    let line = |line: &str| line.as_bytes().chunks(2).map(byte).collect();
-    text.lines().map(line).collect()
-}
-
 /// The lines of rules, and the others.
 fn parted(text: &[u8]) -> (Vec<Vec<u8>>, Vec<Vec<u8>>) {
     let is_rule = |line: &Vec<u8>| matches!(line[0], 0x44 | 0x4C);
-    lines(text).into_iter().partition(is_rule)
+    lines_of(text).into_iter().partition(is_rule)
 }
 
 fn sorted(mut rules: Vec<Vec<u8>>) -> Vec<Vec<u8>> {

@@ -365,8 +365,8 @@ fn playing_head(line: &Line) -> Result<(u8, u32), Refusal> {
 }
 
 fn onsets(lines: &mut Lines, sheet: &mut Sheet) -> Result<(), Refusal> {
-    // 64 bars of 60,000,000 microseconds still fit 32 bits.
-    let end = u32::from(sheet.bars) * sheet.duration;
+    let end = first_past_end(sheet.bars, sheet.duration);
+    let scale = scale(sheet.duration);
     let mut before = 0;
     let mut bar_end = 0;
     let mut in_bar = 0;
@@ -375,7 +375,7 @@ fn onsets(lines: &mut Lines, sheet: &mut Sheet) -> Result<(), Refusal> {
         let (time, pitch) = onset(&line)?;
         line.refuse_if(time < before, FALLING)?;
         line.refuse_if(time >= end, PAST_END)?;
-        let unit = unit(time, sheet.duration);
+        let unit = unit(time, scale);
         if unit >= bar_end {
             bar_end = (unit / BAR_UNITS + 1) * BAR_UNITS;
             in_bar = 0;
@@ -402,9 +402,30 @@ fn onset(line: &Line) -> Result<(u32, u8), Refusal> {
     Ok((time, pitch))
 }
 
-/// The unit of a time before the end: at most 64 bars, so it fits 32 bits.
-fn unit(time: u32, duration: u32) -> u32 {
-    (u64::from(time) * u64::from(BAR_UNITS) / u64::from(duration)) as u32
+/// The first time past the end: a time half a unit before the end, or less, is
+/// rounded up to it. So one comparison tells a time at or past B × duration and a
+/// unit at or past B × 20,160.
+pub fn first_past_end(bars: u8, duration: u32) -> u32 {
+    // 64 bars of 60,000,000 microseconds still fit 32 bits.
+    u32::from(bars) * duration - duration / (2 * BAR_UNITS)
+}
+
+/// Units in 2^59 microseconds, rounded up. Made once a sheet, so that an onset takes a
+/// product and no division. The shortest bar is 1,000 microseconds, so it fits 64 bits.
+pub fn scale(duration: u32) -> u64 {
+    (u128::from(BAR_UNITS) << 59).div_ceil(duration.into()) as u64
+}
+
+/// The unit nearest to a time before the end, an exact half upwards: at most 64
+/// bars, so it fits 32 bits.
+///
+/// Rounding up the scale adds less than 2^32 / 2^59 units. A share and a half unit
+/// make a multiple of 1 / (2 × duration) units, and 2 × duration is below 2^27. So
+/// what is added does not reach the next whole unit.
+pub fn unit(time: u32, scale: u64) -> u32 {
+    // With 2^5 beside the scale's 2^59 a unit is 2^64 of the product.
+    let share = u128::from(u64::from(time) << 5) * u128::from(scale);
+    ((share + (1 << 63)) >> 64) as u32
 }
 
 #[cfg(test)]
@@ -526,7 +547,9 @@ pub mod tests {
         let sheet = read(&many_onsets(16, 32)).unwrap();
         assert_eq!((sheet.onsets.len(), most_in_a_bar(&sheet)), (512, 32));
         assert_eq!(sheet.onsets[511].0, 15 * BAR_UNITS + 19_530);
-        assert!(read(&s_with(8, "4E001E847F3E40")).is_ok());
+        // 50 microseconds before the end are just over half a unit.
+        assert!(read(&s_with(8, "4E001E844E3E40")).is_ok());
+        assert_eq!(refusal(&s_with(8, "4E001E844F3E40")), (7, 8));
         // Only the time of S's second onset is against the shortest bar.
         assert_eq!(refusal(&s_with(6, "4501000003E8")), (7, 8));
     }
@@ -817,23 +840,27 @@ pub mod tests {
         assert_eq!(full("4E00F423FF3C00"), (5, 519));
         assert_eq!(full("4E000000003C40"), (6, 519));
         assert_eq!(full("4E00F424003C40"), (7, 519));
-        assert_eq!(full("4E00F423FF3C40"), (8, 519));
-        let roomy = [many_onsets(64, 8), text(&["4E03D08FFF3C40"])].concat();
+        // 24 microseconds before the end are just under half a unit, 25 just over.
+        assert_eq!(full("4E00F423E83C40"), (7, 519));
+        assert_eq!(full("4E00F423E73C40"), (8, 519));
+        let roomy = [many_onsets(64, 8), text(&["4E03D08FE73C40"])].concat();
         assert_eq!(refusal(&roomy), (8, 519));
-        let crowded = [many_onsets(2, 32), text(&["4E001E847F3C40"])].concat();
+        let crowded = [many_onsets(2, 32), text(&["4E001E84673C40"])].concat();
         assert_eq!(refusal(&crowded), (8, 71));
     }
 
     #[test]
-    fn a_bar_begins_at_its_first_microsecond() {
-        // Three bars of 1,000,003 microseconds, 32 onsets at the end of the first.
+    fn a_bar_begins_half_a_unit_before_its_bar_line() {
+        // Three bars of 1,000,003 microseconds, 32 onsets at the last time of the first.
         let full = |line: &str| {
             let head = text(&[&S[..5], &["4503000F4243"]].concat());
-            let onsets = text(&["4E000F42423C40"; 32]);
+            let onsets = text(&["4E000F422A3C40"; 32]);
             read(&[head, onsets, text(&[line])].concat()).map(|sheet| sheet.onsets[32].0)
         };
-        assert_eq!(full("4E000F42423C40"), Err((8, 39)));
+        assert_eq!(full("4E000F422A3C40"), Err((8, 39)));
+        assert_eq!(full("4E000F422B3C40"), Ok(BAR_UNITS));
         assert_eq!(full("4E000F42433C40"), Ok(BAR_UNITS));
-        assert_eq!(full("4E001E84863C40"), Ok(2 * BAR_UNITS));
+        assert_eq!(full("4E001E846D3C40"), Ok(2 * BAR_UNITS - 1));
+        assert_eq!(full("4E001E846E3C40"), Ok(2 * BAR_UNITS));
     }
 }

@@ -2,6 +2,7 @@
 //! texts, then times both on one fixed sheet.
 
 use crate::harness::{self, best_by_turns, same, Difference, Outcomes};
+use crate::rounded::{Limits, Rounded};
 use crate::sheets::{self, Case, Dice};
 use crate::{library, peer};
 use std::hint::black_box;
@@ -10,7 +11,8 @@ use std::hint::black_box;
 /// one accepted sheet in so many.
 const ALL_ONSETS_EVERY: usize = 8;
 
-/// Gives whether no difference was found and every outcome occurred.
+/// Gives whether no difference was found, and every outcome and everything that is
+/// counted of rounding occurred.
 pub fn run(seed: u64, texts: usize) -> bool {
     println!("Comparing readings of the library and the peer on {texts} texts, seed {seed}.");
     let Some(counts) = compare_all(seed, texts) else {
@@ -19,8 +21,12 @@ pub fn run(seed: u64, texts: usize) -> bool {
     println!("No difference. By outcome:");
     counts.outcomes.print();
     println!("  onset units compared: {}", counts.units);
+    counts.rounded.print();
+    counts.limits.print();
     time_all();
-    counts.outcomes.all_met()
+    let outcomes = counts.outcomes.all_met();
+    let rounded = counts.rounded.all_met();
+    counts.limits.all_met() && outcomes && rounded
 }
 
 // Comparing.
@@ -28,6 +34,8 @@ pub fn run(seed: u64, texts: usize) -> bool {
 struct Counts {
     outcomes: Outcomes,
     units: usize,
+    rounded: Rounded,
+    limits: Limits,
 }
 
 /// Stops at the first difference and prints it.
@@ -36,6 +44,8 @@ fn compare_all(seed: u64, texts: usize) -> Option<Counts> {
     let mut counts = Counts {
         outcomes: Outcomes::new("texts read", &[0, 1, 2, 3, 4, 5, 6, 7, 8]),
         units: 0,
+        rounded: Rounded::default(),
+        limits: Limits::default(),
     };
     for at in 1..=texts {
         let case = sheets::case(&mut dice);
@@ -63,6 +73,10 @@ fn compare(case: &Case, counts: &mut Counts) -> Result<(), Difference> {
     };
     same("rhythm_work_cells", library::work_cells(text), cells)?;
     same("rhythm_tree_bytes", library::tree_bytes(text), bytes)?;
+    if read.is_ok() {
+        counts.rounded.add(text);
+    }
+    counts.limits.add(text, outcome);
     let onsets = read.map_or(Vec::new(), |sheet| sheet.onsets);
     counts.units += compare_units(text, &onsets, counts.outcomes.accepted())?;
     counts.outcomes.add(outcome.0.into())

@@ -1,6 +1,9 @@
 //! Sheets to compare on: valid ones, ones damaged on purpose, and texts that
 //! are hardly sheets at all; and one fixed sheet for timing the reading.
 
+use crate::moments::{self, first_time, time_in, times_of_bar, BAR};
+use crate::rounding;
+
 /// A refusal's number and line; (0, 0) for an accepted sheet.
 pub type Outcome = (u8, u16);
 
@@ -81,12 +84,12 @@ impl Dice {
 }
 
 /// A sheet as lines of bytes, not yet written in digits.
-struct Draft {
-    lines: Vec<Vec<u8>>,
+pub struct Draft {
+    pub lines: Vec<Vec<u8>>,
     nonterminals: usize,
-    rules: usize,
-    bars: usize,
-    duration: usize,
+    pub rules: usize,
+    pub bars: usize,
+    pub duration: usize,
 }
 
 impl Draft {
@@ -94,7 +97,7 @@ impl Draft {
         self.rules + 1
     }
 
-    fn first_onset(&self) -> usize {
+    pub fn first_onset(&self) -> usize {
         self.rules + 2
     }
 
@@ -106,21 +109,21 @@ impl Draft {
         dice.between(1, self.rules)
     }
 
-    fn any_onset(&self, dice: &mut Dice) -> usize {
+    pub fn any_onset(&self, dice: &mut Dice) -> usize {
         dice.between(self.first_onset(), self.lines.len() - 1)
     }
 
     fn time(&self, at: usize) -> usize {
-        let line = &self.lines[at];
-        u32::from_be_bytes([line[1], line[2], line[3], line[4]]) as usize
+        time_of_line(&self.lines[at])
     }
 
-    fn set_time(&mut self, at: usize, time: usize) {
+    pub fn set_time(&mut self, at: usize, time: usize) {
         self.lines[at][1..5].copy_from_slice(&(time as u32).to_be_bytes());
     }
 
-    fn end(&self) -> usize {
-        self.bars * self.duration
+    /// The first time past the end, which may be so by its unit alone.
+    pub fn end(&self) -> usize {
+        first_time(self.bars * BAR, self.duration)
     }
 
     fn text(&self) -> Vec<u8> {
@@ -137,6 +140,22 @@ pub fn text_of(lines: &[Vec<u8>]) -> Vec<u8> {
     text
 }
 
+/// The bytes of each line of a well-formed text.
+pub fn lines_of(text: &[u8]) -> Vec<Vec<u8>> {
+    let text = std::str::from_utf8(text).expect("a text is digits");
+    let byte = |pair: &[u8]| {
+        let pair = std::str::from_utf8(pair).expect("a pair is digits");
+        u8::from_str_radix(pair, 16).expect("a pair is digits")
+    };
+    let line = |line: &str| line.as_bytes().chunks(2).map(byte).collect();
+    text.lines().map(line).collect()
+}
+
+/// The time of an onset's line.
+pub fn time_of_line(line: &[u8]) -> usize {
+    u32::from_be_bytes([line[1], line[2], line[3], line[4]]) as usize
+}
+
 fn write_line(text: &mut Vec<u8>, line: &[u8]) {
     for byte in line {
         text.push(DIGITS[usize::from(byte >> 4)]);
@@ -146,7 +165,7 @@ fn write_line(text: &mut Vec<u8>, line: &[u8]) {
 }
 
 /// A line's number, counted from 1.
-fn number(at: usize) -> u16 {
+pub fn number(at: usize) -> u16 {
     at as u16 + 1
 }
 
@@ -167,14 +186,25 @@ fn draft(dice: &mut Dice) -> Draft {
 }
 
 fn draft_of(dice: &mut Dice, rules: usize, bars: usize, onsets: usize) -> Draft {
+    let duration = moments::duration(dice);
+    let times = moments::times(dice, bars, duration, onsets);
+    draft_at(dice, rules, (bars, duration), &times)
+}
+
+/// A draft with onsets at times, which are in order.
+pub fn draft_at(
+    dice: &mut Dice,
+    rules: usize,
+    (bars, duration): (usize, usize),
+    times: &[usize],
+) -> Draft {
     let nonterminals = dice.between_edged(1, 16);
-    let duration = duration(dice);
     let mut lines = vec![grammar_head(dice, nonterminals)];
     for _ in 0..rules {
         lines.push(rule(dice, nonterminals));
     }
     lines.push(playing_head(bars, duration));
-    for time in times(dice, bars, duration, onsets) {
+    for &time in times {
         lines.push(onset(dice, time));
     }
     Draft {
@@ -184,12 +214,6 @@ fn draft_of(dice: &mut Dice, rules: usize, bars: usize, onsets: usize) -> Draft 
         bars,
         duration,
     }
-}
-
-pub fn duration(dice: &mut Dice) -> usize {
-    // A random width first: short bars make equal units and bar lines likely.
-    let widest = 60_000_000 >> dice.below(16);
-    dice.between_edged(1_000, widest.max(1_000))
 }
 
 pub fn grammar_head(dice: &mut Dice, nonterminals: usize) -> Vec<u8> {
@@ -237,39 +261,11 @@ pub fn onset(dice: &mut Dice, time: usize) -> Vec<u8> {
     line
 }
 
-/// Times in order, at most 32 in a bar.
-fn times(dice: &mut Dice, bars: usize, duration: usize, onsets: usize) -> Vec<usize> {
-    let mut in_bar = vec![0; bars];
-    let mut times = Vec::with_capacity(onsets + 1);
-    for _ in 0..onsets {
-        let mut bar = dice.below(bars);
-        while in_bar[bar] == MAX_BAR_ONSETS {
-            bar = (bar + 1) % bars;
-        }
-        in_bar[bar] += 1;
-        let before = times.last().copied();
-        times.push(time_in(dice, bar, duration, before));
-    }
-    times.sort_unstable();
-    times
-}
-
-fn time_in(dice: &mut Dice, bar: usize, duration: usize, before: Option<usize>) -> usize {
-    let left = bar * duration;
-    match (dice.below(8), before) {
-        (0, _) => left,
-        (1, _) => left + duration - 1,
-        (2, _) => left + duration / 2,
-        (3, Some(time)) if time / duration == bar => time,
-        _ => left + dice.below(duration),
-    }
-}
-
 // Damage to a draft: each gives the outcome it must have, if it settles one.
 
 type Damage = (&'static str, fn(&mut Dice, &mut Draft) -> Option<Outcome>);
 
-const DAMAGES: [Damage; 35] = [
+const DAMAGES: [Damage; 41] = [
     ("unknown kind", unknown_kind),
     ("kind out of order", kind_out_of_order),
     ("any other kind", any_other_kind),
@@ -305,6 +301,15 @@ const DAMAGES: [Damage; 35] = [
     ("onset 513 at the end", onset_513_past_end),
     ("onset 513 falling", onset_513_falling),
     ("onset 33 of a bar", onset_33_of_a_bar),
+    ("last time of the piece", rounding::last_time),
+    ("unit at the end", rounding::unit_at_end),
+    ("onset 513, unit at the end", rounding::onset_513_at_end),
+    ("full bar, unit at the end", rounding::full_bar_at_end),
+    (
+        "onset 33 of a bar by rounding",
+        rounding::onset_33_by_rounding,
+    ),
+    ("onsets rounded out of a bar", rounding::onsets_rounded_out),
 ];
 
 fn unknown_kind(dice: &mut Dice, draft: &mut Draft) -> Option<Outcome> {
@@ -620,13 +625,20 @@ fn rule_65_out_of_range(dice: &mut Dice, draft: &mut Draft) -> Option<Outcome> {
 
 /// Puts a sheet of 513 onsets in the draft's place; gives the last's place.
 fn add_onset_513(dice: &mut Dice, draft: &mut Draft) -> usize {
+    let duration = moments::duration(dice);
+    *draft = draft_513(dice, duration);
+    draft.lines.len() - 1
+}
+
+/// A sheet of 513 onsets, and all else valid.
+pub fn draft_513(dice: &mut Dice, duration: usize) -> Draft {
     let rules = dice.between(1, MAX_RULES);
     let bars = dice.between_edged(16, 64);
-    *draft = draft_of(dice, rules, bars, MAX_ONSETS);
-    let last = draft.time(draft.lines.len() - 1);
-    let time = dice.between_edged(last, draft.end() - 1);
+    let times = moments::times(dice, bars, duration, MAX_ONSETS);
+    let mut draft = draft_at(dice, rules, (bars, duration), &times);
+    let time = dice.between_edged(times[MAX_ONSETS - 1], draft.end() - 1);
     draft.lines.push(onset(dice, time));
-    draft.lines.len() - 1
+    draft
 }
 
 fn onset_513(dice: &mut Dice, draft: &mut Draft) -> Option<Outcome> {
@@ -651,7 +663,8 @@ fn onset_513_falling(dice: &mut Dice, draft: &mut Draft) -> Option<Outcome> {
 
 fn onset_33_of_a_bar(dice: &mut Dice, draft: &mut Draft) -> Option<Outcome> {
     let bar = dice.below(draft.bars);
-    let (left, right) = (bar * draft.duration, (bar + 1) * draft.duration);
+    let times = times_of_bar(bar, draft.duration);
+    let (left, right) = (times.start, times.end);
     let first = draft.first_onset();
     let place = |draft: &Draft, time| {
         let onsets = first..draft.lines.len();

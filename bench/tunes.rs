@@ -1,7 +1,7 @@
 //! Sheets for timing the search, always the same: tunes of any number of bars,
 //! and the heaviest sheets.
 
-use crate::lists::{eight_anywhere, leaf_of, played, units_by_bar};
+use crate::lists::{eight_anywhere, leaf_of, played_first, units_by_bar};
 use crate::orders::Order;
 use crate::peer::BAR_UNITS;
 use crate::sheets::{self, Dice};
@@ -47,7 +47,7 @@ pub fn tune(bars: usize) -> Vec<u8> {
         }
     }
     let units = units_by_bar(&mut dice, bars, eight_in_beats);
-    played(&mut dice, lines, bars, DURATION, &units)
+    played_first(&mut dice, lines, bars, DURATION, &units)
 }
 
 /// A bar of four beats of one, two, two and three onsets in any order.
@@ -105,7 +105,7 @@ fn heaviest_in(order: Order, dividing: usize, arities: impl Fn(usize) -> Vec<usi
     lines.extend(order.of(&rules));
     let mut units = units_by_bar(&mut dice, BARS, eight_anywhere);
     units[0] = 0;
-    played(&mut dice, lines, BARS, DURATION, &units)
+    played_first(&mut dice, lines, BARS, DURATION, &units)
 }
 
 /// A rule of a small weight: heavy ones would settle where to divide early.

@@ -32,7 +32,8 @@ uint64_t rhythm_work_cells(const uint8_t *text, size_t text_length);
 /* The required length of the tree slice of rhythm_find, in bytes; 0: the text is refused. */
 uint64_t rhythm_tree_bytes(const uint8_t *text, size_t text_length);
 
-/* The unit of onset i, counted from the first bar; 0 past the last onset, and where the text is refused. */
+/* The unit of onset i, the nearest to its time, an exact half upwards, counted from the first bar; 0 past the last onset, and where the text is
+ * refused. */
 uint32_t rhythm_onset_unit(const uint8_t *text, size_t text_length, size_t i);
 
 /* Prices a list of bytes. answer: refusal number, line, node count, R, D, total. The number is 0 exactly when the list is a valid tree of

@@ -1,5 +1,5 @@
--- What requests (xiv), (ix) and (iv) of document 02 add to the demands, under the requests' own words: theorems about `find`, about what
--- the search is prepared with, and about `read`. A reader needs the page of the demands, and of the names below their definitions.
+-- What requests (xiv), (ix), (iv) and (v) of document 02 add to the demands, under the requests' own words: theorems about `find`, about
+-- what the search is prepared with, and about `read`. A reader needs the page of the demands, and of the names below their definitions.
 --   withMultiplier a s, slid a text    the sheet, the text, with the multiplier a in the place of its own (sheet/specs/Multiplier)
 --   AlikeTexts t u                     the same lines but for a's field (sheet/specs/Multiplier)
 --   Call                               a call of `find` by whatever meets `Finds` (finding/specs/Calls), x .answer what it gives
@@ -14,17 +14,30 @@
 --                                      first line (hextext/specs/Text)
 --   LineHeld l b                       l holds the line b: its kind, its count, its first eight bytes where it has more, and its last
 --                                      eight (sheet/specs/Held)
-use Prim.Native.Nat.{ℕ, _+_, _≤_, _<_}
+--   NearestUnit d t u                  no unit is nearer than u to the moment t of bars that last d, and none that is as near is later
+--                                      (sheet/specs/Nearest)
+--   onsetLines (lines text)            the `4E` lines of a text, in order (sheet/specs/OnsetLines)
+--   timeAt text i, unitAt r i          the time of `4E` line i, from 0, and the unit that a reading has of onset i (sheet/specs/UnitsRead)
+--   unitOf d t, unitIn timing t        the unit of a moment; barOf u, the bar of a unit, from 0 (sheet/specs/Sheet)
+--   refusal, inOnsets g timing p last  the refusal of the next line, 0 for none, where g, the timing and the playing p have been read, the
+--                                      last onset at the time `last` (sheet/specs/Reading)
+use Prim.Native.Nat.{ℕ, _+_, _*_, _/_, _≤_, _<_}
 use mathlib.Core.Path.{_≡_, refl, sym, ap, _∙_}
 use mathlib.Core.List.{List}
 use mathlib.Core.Logic.{_↔_}
 use lib.ListN.{length, drop}
 use Rattle.hextext.specs.declared.line.Line.{Line}
-use Rattle.hextext.specs.Text.{badLine, lineBytes}
+use Rattle.hextext.specs.Text.{badLine, lineBytes, lines}
 use Rattle.hextext.specs.Packed.{lineRead}
 use Rattle.sheet.specs.declared.table.Reading.{Reading}
-use Rattle.sheet.specs.Sheet.{Sheet}
-use Rattle.sheet.specs.Accepted.{Accepts}
+use Rattle.slices.specs.Every.{Every}
+use Rattle.sheet.specs.Sheet.{Onset, Grammar, Playing, Sheet, Timing, barUnits, unitOf, unitIn, barOf}
+use Rattle.sheet.specs.Reading.{byte, four, onsetForm, inOnsets, refusal}
+use Rattle.sheet.specs.Nearest as nearest
+use Rattle.sheet.specs.Nearest.{NearestUnit}
+use Rattle.sheet.specs.OnsetLines.{onsetLines, late-refused}
+use Rattle.sheet.specs.UnitsRead.{timeAt, unitAt, units-read}
+use Rattle.sheet.specs.Accepted.{Accepts, accepted-good}
 use Rattle.sheet.specs.Held.{LineHeld, readingOf, Reads}
 use Rattle.sheet.specs.Laws.{ill-formed}
 use Rattle.sheet.specs.Rest.{rest-held}
@@ -110,3 +123,33 @@ read-bad-first text r e fits bad =
 pub line-fields : (text : List ℕ) (at : ℕ) → at < length text → (l : Line) → l ≡ lineRead text at → (l .count ≡ 0 → ⊥)
     → LineHeld l (lineBytes (drop at text))
 line-fields text at inside l is filled = rest-held text at inside l is filled
+
+-- ==== Document 02, (v), thirds that land. "An onset now goes to the nearest unit, an exact half upwards": an accepted text has an onset for
+-- each of its `4E` lines, in order, and each is at the unit nearest to its line's time. There is one such unit.
+pub read-nearest : (text : List ℕ) (r : Reading) → Reads text r → r .number ≡ 0
+    → (r .playing .count ≡ length (onsetLines (lines text)))
+    × ((i : ℕ) → i < r .playing .count → NearestUnit (r .timing .duration .0) (timeAt text i) (unitAt r i))
+read-nearest text r e z = let u = units-read text r e z in (u .count, u .nearest)
+
+pub nearest-only : (d t u v : ℕ) → NearestUnit d t u → NearestUnit d t v → u ≡ v
+nearest-only = nearest.nearest-only
+
+-- "So perfect playing costs one unit" no more: the moment of a unit, rounded down to a microsecond as a machine does, is at that unit, in bars
+-- of 40,320 microseconds or more.
+pub perfect-lands : (d u : ℕ) → 2 * barUnits ≤ d → NearestUnit d (u * d / barUnits) u
+perfect-lands = nearest.perfect-lands
+
+-- "An onset rounded up to a bar line belongs to the next bar": the moment is in bar b, from 0, and its unit is not. A bar's onsets are
+-- counted from units (`inBar`, sheet/specs/Sheet), and so are the required lengths and every distance.
+pub rounded-to-next-bar : (d b t : ℕ) → 0 < d → t < (b + 1) * d → (b + 1) * barUnits ≤ unitOf d t → barOf (unitOf d t) ≡ b + 1
+rounded-to-next-bar = nearest.next-bar
+
+-- "Refusal 7 also comes when the unit reaches B × 20,160": of a `4E` line of the right form whose time does not fall, whatever room there
+-- is; so every onset of an accepted text is before the end.
+pub read-late-unit : (g : Grammar) (timing : Timing) (p : Playing) (last : ℕ) (l : List ℕ) → byte l 0 ≡ 0x4E → onsetForm l ≡ 0
+    → last ≤ four l 1 → p .bars * barUnits ≤ unitIn timing (four l 1) → refusal (inOnsets g timing p last) l ≡ 7
+read-late-unit = late-refused
+
+pub read-before-end : (text : List ℕ) (s : Sheet) → Accepts text s
+    → Every (λ (o : Onset). o .unit < s .playing .bars * barUnits) (s .playing .onsets)
+read-before-end text s a = accepted-good text s a .onsets .below

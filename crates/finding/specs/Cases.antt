@@ -1,7 +1,7 @@
 -- The seven cases of document 01 ("The sheet S and its neighbours") that finding answers, as document 02 leaves them, with two of rests,
--- three of two least trees each and two sheets at several multipliers, and what is computed of them: the required lengths, the price of the
--- bytes, that no tree totals less, and that none that totals as much comes before them. `FindingCases.all-answered` and `equals-answered`
--- and `SlidingCases.slid-answered` say what this means of finding.
+-- one of an onset rounded up to a bar line, three of two least trees each and two sheets at several multipliers, and what is computed of
+-- them: the required lengths, the price of the bytes, that no tree totals less, and that none that totals as much comes before them.
+-- `FindingCases.all-answered` and `equals-answered` and `SlidingCases.slid-answered` say what this means of finding.
 use Prim.Native.Nat.{ℕ}
 use mathlib.Core.Path.{_≡_, refl}
 use mathlib.Core.Bool.{Bool, true, false, cond, _&&_}
@@ -91,18 +91,24 @@ slid-cases =
     ∷ case (slid 1 bar-or-tie) 240 81 (priced 1 1 0 1) (1 ∷ [])
     ∷ []
 
--- nodes, R, D and total, and the tree; or refusal 11 with line 0. The last two open with a rest: half a bar, and a bar
+-- Document 02, (v): onsets a microsecond before the bar line and on it, with leaves of a rest and of two onsets. Both are in bar 2, so E is
+-- 2, and both are placed at its start.
+abbrev both-in-bar-2 : List ℕ
+both-in-bar-2 = grammarS ++ textOf "4C00000704\n4C00000502\n4502001E8480\n4E001E847F3C40\n4E001E84803E40\n"
+
+-- nodes, R, D and total, and the tree; or refusal 11 with line 0. The last three open with a rest: half a bar, and a bar twice
 abbrev pub cases : List Case
 cases =
     case S 464 161 (priced 3 8 1008 1088) (1 ∷ 3 ∷ 3 ∷ [])
-    ∷ case (later (textOf "0007A11F")) 240 81 (priced 1 1 5039 5049) (0 ∷ [])
+    ∷ case (later (textOf "0007A11F")) 240 81 (priced 1 1 5040 5050) (0 ∷ [])
     ∷ case (later (textOf "0007A120")) 240 81 (priced 1 1 5040 5050) (0 ∷ [])
-    ∷ case (later (textOf "000F423F")) 240 81 (priced 1 1 10079 10089) (0 ∷ [])
+    ∷ case (later (textOf "000F423F")) 240 81 (refused 11 0) []
     ∷ case (later (textOf "000F4240")) 240 81 (refused 11 0) []
-    ∷ case (grammarS ++ textOf "4502001E8480\n4E000000003C40\n4E001E847F3E40\n") 480 162 (priced 2 2 1 21) (0 ∷ 0 ∷ [])
+    ∷ case (grammarS ++ textOf "4502001E8480\n4E000000003C40\n4E001E847F3E40\n") 256 162 (priced 2 2 0 20) (0 ∷ 0 ∷ [])
     ∷ case (grammarS ++ headS ++ textOf "4E000000003C40\n4E000000003E40\n") 464 161 (refused 11 0) []
     ∷ case rested 240 81 (priced 3 9 0 90) (1 ∷ 4 ∷ 3 ∷ [])
     ∷ case (grammarS ++ textOf "4C00000704\n4502001E8480\n4E001E84803C40\n") 256 82 (priced 2 8 0 80) (4 ∷ 0 ∷ [])
+    ∷ case both-in-bar-2 480 162 (priced 2 12 0 120) (4 ∷ 5 ∷ [])
     ∷ []
 
 -- ---- the test of a case

@@ -50,6 +50,7 @@ pub onsets-none : (t : List ℕ) (at n bars : ℕ) (timing : Timing) (table : Pl
     → OnsetsSoFar t at n bars timing table (record { time = micros 0; bar = 0; run = 0 }) at n 0
 unfolding inBar
 onsets-none t at n bars timing table w l pos good e =
+    let lasting : 0 < timing .duration = let time = good .time in omega (arith, time .shortest) in
     record {
       playing = noPlaying bars;
       last = 0;
@@ -57,7 +58,7 @@ onsets-none t at n bars timing table w l pos good e =
       bars-are = refl;
       count = refl;
       table-is = e;
-      latest = λ j. record { time = micros 0; bar = first-bar (timing .duration) j; run = 0 };
+      latest = λ j. record { time = micros 0; bar = first-bar (timing .duration) lasting j; run = 0 };
       within = w;
       line = l;
       numbered = pos;

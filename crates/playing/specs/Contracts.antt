@@ -9,12 +9,13 @@ use Rattle.hextext.specs.declared.line.Line.{Line}
 use Rattle.sheet.specs.declared.table.TimingTable.{TimingTable}
 use Rattle.sheet.specs.Sheet.{Grammar, Playing, Timing, TimedSheet, unitIn, barOf, inBar}
 use Rattle.sheet.specs.Outcome.{Outcome, accepted}
-use Rattle.sheet.specs.Reading.{inRules, inOnsets, refusal, withOnset, onsetOf, four}
+use Rattle.sheet.specs.Reading.{momentRefusal, inRules, inOnsets, refusal, withOnset, onsetOf, four}
 use Rattle.sheet.specs.Rest.{readRest, stopped}
 use Rattle.sheet.specs.Held.{micros, timingTable, playingTable, noPlaying}
-use Rattle.sheet.specs.Good.{GoodRules}
+use Rattle.sheet.specs.Good.{GoodRules, GoodTiming}
 use Rattle.sheet.specs.SoFar.{GoodSoFar}
 use Rattle.playing.specs.declared.onset.Latest.{Latest}
+use Rattle.playing.specs.declared.onset.Moment.{Moment}
 use Rattle.playing.specs.declared.onset.OnsetStep.{OnsetStep}
 use Rattle.playing.specs.declared.Take.{Take}
 
@@ -34,6 +35,17 @@ latestOf timing p last =
       bar = barOf (unitIn timing last);
       run = inBar (barOf (unitIn timing last)) (p .onsets);
     }
+
+-- 1 to 64 bars of a good duration
+pub record GoodBars (bars : ℕ) (timing : Timing) : Type 0 where
+  pub one : 1 ≤ bars
+  pub sixty-four : bars ≤ 64
+  pub time : GoodTiming timing
+
+-- a moment: its refusal; and where there is none its unit
+pub record MomentOf (bars : ℕ) (timing : Timing) (last t : ℕ) (r : Moment) : Type 0 where
+  pub number : r .number ≡ momentRefusal bars timing last t
+  pub unit : r .number ≡ 0 → r .unit .0 ≡ unitIn timing t
 
 -- an onset line: its refusal; and where there is none its unit, and what the next onset is held against
 pub record OnsetStepped (g : Grammar) (timing : Timing) (p : Playing) (last : ℕ) (b : List ℕ) (r : OnsetStep) : Type 0 where

@@ -1,10 +1,10 @@
 // One `4E` line: its refusal, or the onset that it adds.
 ghost use mathlib.Core.Path.{_≡_};
 ghost use mathlib.Core.List.{List};
-ghost use Prim.Native.Nat.{ℕ, _≤_};
-ghost use Rattle.sheet.specs.Reading.{onsetForm, momentRefusal, roomRefusal};
+ghost use Prim.Native.Nat.{ℕ};
+ghost use Rattle.sheet.specs.Reading.{onsetForm, roomRefusal};
 ghost use Rattle.sheet.specs.Held.{LineHeld};
-ghost use Rattle.playing.specs.Contracts.{timingIn, runIn, OnsetStepOf};
+ghost use Rattle.playing.specs.Contracts.{timingIn, runIn, GoodBars, MomentOf, OnsetStepOf};
 use hextext::Line;
 use sheet::BAR_ONSETS_MOST;
 use sheet::BAR_UNITS;
@@ -13,6 +13,7 @@ use sheet::ONSETS_MOST;
 use sheet::TimingTable;
 use sheet::Units;
 use sheet::byte_at;
+use sheet::first_past_end;
 use sheet::four_at;
 use sheet::unit_of;
 
@@ -28,6 +29,12 @@ pub struct OnsetStep {
     pub number: u8,
     pub unit: Units,
     pub latest: Latest,
+}
+
+// What a moment gives: its refusal; or, with number 0, its unit.
+pub struct Moment {
+    pub number: u8,
+    pub unit: Units,
 }
 
 // The refusal of a `4E` line by its form; 0: none.
@@ -51,20 +58,32 @@ fn form_refusal(l: Line) -> u8
     0
 }
 
-// The refusal of a moment, after the last one and before the end; 0: none.
-fn moment_refusal(bars: u8, timing: TimingTable, last: Micros, moment: Micros) -> u8
-    ensures { λ r. ⌜ r ≡ momentRefusal bars (timingIn timing) (last .0) (moment .0) ⌝ }
+// A moment that is refused.
+fn refused_moment(number: u8) -> Moment
+    ensures { λ r. ⌜ r .number ≡ number ⌝ }
+{
+    Moment {
+        number,
+        unit: Units(0),
+    }
+}
+
+// A moment, after the last one and before the end: one test tells whether both its time and its unit are before the end.
+fn moment_of(bars: u8, timing: TimingTable, last: Micros, moment: Micros) -> Moment
+    requires { ⌜ GoodBars bars (timingIn timing) ⌝ }
+    ensures { λ r. ⌜ MomentOf bars (timingIn timing) (last .0) (moment .0) r ⌝ }
 {
     let t = moment.0;
     let before = last.0;
     if t < before {
-        return 6;
+        return refused_moment(6);
     }
-    let end = (bars as u64) * (timing.duration.0 as u64);
-    if end <= t as u64 {
-        return 7;
+    let end = first_past_end(bars, timing.duration);
+    if end.0 <= t {
+        return refused_moment(7);
     }
-    0
+    let unit = unit_of(moment, timing.duration);
+    Moment { number: 0, unit }
 }
 
 // The refusal of one onset more after `count`, of which `here` are in its bar; 0: none.
@@ -100,7 +119,7 @@ fn refused_step(number: u8, latest: Latest) -> OnsetStep
 
 // A line after the `45` line and `count` onsets.
 pub fn onset_step(bars: u8, timing: TimingTable, count: usize, latest: Latest, l: Line) -> OnsetStep
-    requires { ⌜ bars ≤ 64 ⌝ }
+    requires { ⌜ GoodBars bars (timingIn timing) ⌝ }
     ensures { λ r. ⌜ ((b : List ℕ) → LineHeld l b → OnsetStepOf bars (timingIn timing) count latest b r) ⌝ }
 {
     if l.kind != 0x4E {
@@ -111,11 +130,12 @@ pub fn onset_step(bars: u8, timing: TimingTable, count: usize, latest: Latest, l
         return refused_step(form, latest);
     }
     let t = Micros(four_at(l, 1));
-    let moment = moment_refusal(bars, timing, latest.time, t);
-    if moment != 0 {
-        return refused_step(moment, latest);
+    let moment = moment_of(bars, timing, latest.time, t);
+    let refusal = moment.number;
+    if refusal != 0 {
+        return refused_step(refusal, latest);
     }
-    let unit = unit_of(t, timing.duration);
+    let unit = moment.unit;
     let bar = unit.0 / BAR_UNITS;
     let here = run_in(latest.bar, latest.run, bar);
     let room = room_refusal(count, here);

@@ -127,11 +127,13 @@ count-and-range =
     ∷ case (grammarS ++ headS ++ textOf "4E000000003C00\n") 5 7
     ∷ []
 
--- refusals 6 and 7: onsets at 5 and then 0; an onset at the end of the last bar; the range of a field before the fall of a time
+-- refusals 6 and 7: onsets at 5 and then 0; an onset at the end of the last bar, and one that is rounded up to it; the range of a field
+-- before the fall of a time
 abbrev times-fall-or-pass : List Case
 times-fall-or-pass =
     case (grammarS ++ headS ++ textOf "4E000000053C40\n4E000000003C40\n") 6 8
     ∷ case (S ++ textOf "4E001E84803C40\n") 7 9
+    ∷ case (grammarS ++ headS ++ textOf "4E001E847F3C40\n") 7 7
     ∷ case (grammarS ++ headS ++ textOf "4E000000053C40\n4E000000008040\n") 5 8
     ∷ []
 
@@ -142,28 +144,33 @@ rules64 = textOf "470200000A\n" ++ times 64 (textOf "4C00000101\n")
 abbrev onsets32 : List ℕ
 onsets32 = grammarS ++ headS ++ times 32 (textOf "4E000000053C40\n")
 
--- 512 onsets, 32 in each of 16 bars of one millisecond, with a bar more
+-- 512 onsets, 32 in each of 16 bars of 65,536 microseconds, with a bar more
 abbrev onsets512 : List ℕ
 onsets512 =
-    grammarS ++ textOf "4511000003E8\n"
+    grammarS ++ textOf "451100010000\n"
     ++ times 32 (textOf "4E000000003C40\n")
-    ++ times 32 (textOf "4E000003E83C40\n")
-    ++ times 32 (textOf "4E000007D03C40\n")
-    ++ times 32 (textOf "4E00000BB83C40\n")
-    ++ times 32 (textOf "4E00000FA03C40\n")
-    ++ times 32 (textOf "4E000013883C40\n")
-    ++ times 32 (textOf "4E000017703C40\n")
-    ++ times 32 (textOf "4E00001B583C40\n")
-    ++ times 32 (textOf "4E00001F403C40\n")
-    ++ times 32 (textOf "4E000023283C40\n")
-    ++ times 32 (textOf "4E000027103C40\n")
-    ++ times 32 (textOf "4E00002AF83C40\n")
-    ++ times 32 (textOf "4E00002EE03C40\n")
-    ++ times 32 (textOf "4E000032C83C40\n")
-    ++ times 32 (textOf "4E000036B03C40\n")
-    ++ times 32 (textOf "4E00003A983C40\n")
+    ++ times 32 (textOf "4E000100003C40\n")
+    ++ times 32 (textOf "4E000200003C40\n")
+    ++ times 32 (textOf "4E000300003C40\n")
+    ++ times 32 (textOf "4E000400003C40\n")
+    ++ times 32 (textOf "4E000500003C40\n")
+    ++ times 32 (textOf "4E000600003C40\n")
+    ++ times 32 (textOf "4E000700003C40\n")
+    ++ times 32 (textOf "4E000800003C40\n")
+    ++ times 32 (textOf "4E000900003C40\n")
+    ++ times 32 (textOf "4E000A00003C40\n")
+    ++ times 32 (textOf "4E000B00003C40\n")
+    ++ times 32 (textOf "4E000C00003C40\n")
+    ++ times 32 (textOf "4E000D00003C40\n")
+    ++ times 32 (textOf "4E000E00003C40\n")
+    ++ times 32 (textOf "4E000F00003C40\n")
 
--- refusal 8: rule 65, onset 33 of a bar and onset 513, each after that line's own 3 to 7
+-- an onset a microsecond before the bar line, which is rounded up to it, and 32 on it
+abbrev pub onsets33 : List ℕ
+onsets33 = grammarS ++ textOf "4502001E8480\n4E001E847F3C40\n" ++ times 32 (textOf "4E001E84803C40\n")
+
+-- refusal 8: rule 65, onset 33 of a bar, also by rounding alone, and onset 513, each after that line's own 3 to 7, of which the last is a
+-- unit at the end
 abbrev too-many : List Case
 too-many =
     case (rules64 ++ textOf "4C00000101\n") 8 66
@@ -176,7 +183,9 @@ too-many =
     ∷ case (onsets32 ++ textOf "4E000000063C80\n") 5 39
     ∷ case (onsets32 ++ textOf "4E000000043C40\n") 6 39
     ∷ case (onsets32 ++ textOf "4E001E84803C40\n") 7 39
-    ∷ case (onsets512 ++ textOf "4E00003E803C40\n") 8 519
+    ∷ case onsets33 8 39
+    ∷ case (onsets512 ++ textOf "4E001000003C40\n") 8 519
+    ∷ case (onsets512 ++ textOf "4E0010FFFF3C40\n") 7 519
     ∷ []
 
 abbrev pub refusals : List Case

@@ -14,7 +14,7 @@ use Rattle.sheet.specs.Sheet.{Rule, Onset, Grammar, Playing, Timing, uni
 use Rattle.sheet.specs.Reading.{byte, two, four, allBelow, bytesFrom, headRefusal, headOf, divisionRefusal, divisionOf, leafRefusal}
 use Rattle.sheet.specs.Reading.{leafOf, ruleRefusal, ruleOf, withRule, playingRefusal, playingOf, timingOf, onsetRefusal, onsetOf}
 use Rattle.sheet.specs.Reading.{withOnset, Progress, nothing, inRules, inOnsets, rulesRefusal, refusal, after, demand}
-use Rattle.sheet.specs.Clock.{unit-lt, unit-mono}
+use Rattle.sheet.specs.Clock.{unit-mono}
 use Rattle.sheet.specs.Good.{Rising, GoodRule, GoodRules}
 use Rattle.sheet.specs.SoFar.{GoodSoFar, GoodProgress}
 use Rattle.sheet.specs.Laws.{length-bytes, demand-zero, cond-zero, head-passed, division-passed, leaf-passed, playing-passed}
@@ -146,8 +146,7 @@ module _ (timing : Timing) (p : Playing) (last : ℕ) (l : List ℕ) (h : GoodSo
               sixty-four = h .onsets .sixty-four;
               most = rw (length-append (p .onsets) (o ∷ [])) (omega (arith, k .room));
               below =
-                  every-more (λ (x : Onset). x .unit < p .bars * barUnits) (p .onsets) o (h .onsets .below)
-                  (unit-lt (p .bars) (timing .duration) (four l 1) lasting (k .inside));
+                  every-more (λ (x : Onset). x .unit < p .bars * barUnits) (p .onsets) o (h .onsets .below) (k .inside);
               pitches = every-more (λ (x : Onset). x .pitch ≤ 127) (p .onsets) o (h .onsets .pitches) (k .pitch);
               rising = rising-more 0 (p .onsets) o (h .onsets .rising) (omega arith) earlier;
               few = λ b. few-more b (ℕ-discrete (barOf u) b) (k .few);

@@ -4,12 +4,13 @@ use mathlib.Core.Path.{_≡_, refl, sym, ap, _∙_}
 use mathlib.Core.Bool.{Bool, true, false, cond}
 use mathlib.Core.List.{List, [], _∷_}
 use native.Mathlib.Omega.{arith}
+use native.Mathlib.Decide.{decLe}
 use lib.ListN.{length}
 use lib.Dec.{eqb, leb, ltb}
 use borrow.Author.Tests.{eqb-true, le-leb, lt-leb, le-ltb, lt-ltb, leb-true, ltb-true}
 use Rattle.hextext.specs.Text.{badLine, lines}
-use Rattle.sheet.specs.Sheet.{Grammar, Playing, Timing, unitIn, endOf, barOf, inBar}
-use Rattle.sheet.specs.Outcome.{refused, accepted}
+use Rattle.sheet.specs.Sheet.{Grammar, Playing, Timing, TimedSheet, barUnits, unitIn, endOf, barOf, inBar}
+use Rattle.sheet.specs.Outcome.{refused, accepted, accepted-not-refused}
 use Rattle.sheet.specs.Reading.{demand, first, byte, four, allBelow, bytesFrom, headRefusal, divisionRefusal, leafRefusal}
 use Rattle.sheet.specs.Reading.{playingRefusal, onsetForm, momentRefusal, roomRefusal, onsetRefusal, Progress, nothing, inRules}
 use Rattle.sheet.specs.Reading.{inOnsets, refusal, after, atEnd, readLines, readFormed, readSheet}
@@ -121,12 +122,23 @@ playing-passed l e =
     }
 
 pub moment-passed : (bars : ℕ) (timing : Timing) (last t : ℕ) → momentRefusal bars timing last t ≡ 0
-    → (last ≤ t) × (t < endOf bars timing)
+    → (last ≤ t) × (t < endOf bars timing) × (unitIn timing t < bars * barUnits)
 unfolding momentRefusal
 moment-passed bars timing last t e =
     let e₁ = demand-zero (leb last t) 5 _ e in
-    let e₂ = demand-zero (ltb t (endOf bars timing)) 6 0 (e₁ .1) in
-    (leb-true _ _ (e₁ .0), ltb-true _ _ (e₂ .0))
+    let e₂ = demand-zero (ltb t (endOf bars timing)) 6 _ (e₁ .1) in
+    let e₃ = demand-zero (ltb (unitIn timing t) (bars * barUnits)) 6 0 (e₂ .1) in
+    (leb-true _ _ (e₁ .0), ltb-true _ _ (e₂ .0), ltb-true _ _ (e₃ .0))
+
+-- a moment that does not fall, and whose unit is at or past the end
+pub moment-late : (bars : ℕ) (timing : Timing) (last t : ℕ) → last ≤ t → bars * barUnits ≤ unitIn timing t
+    → momentRefusal bars timing last t ≡ 7
+unfolding momentRefusal
+moment-late bars timing last t rises late = go (ltb t (endOf bars timing)) refl
+  where
+    go : (c : Bool) → ltb t (endOf bars timing) ≡ c → momentRefusal bars timing last t ≡ 7
+    go true e = simp (le-leb last t rises, e, le-ltb _ _ late)
+    go false e = simp (le-leb last t rises, e)
 
 pub room-passed : (before here : ℕ) → roomRefusal before here ≡ 0 → (before < 512) × (here < 32)
 unfolding roomRefusal
@@ -142,7 +154,7 @@ form-passed l e = leb-true _ _ (demand-zero (leb (byte l 5) 127) 4 _ (demand-zer
 pub record OnsetPassed (timing : Timing) (p : Playing) (last : ℕ) (l : List ℕ) : Type 0 where
   pub pitch : byte l 5 ≤ 127
   pub rises : last ≤ four l 1
-  pub inside : four l 1 < endOf (p .bars) timing
+  pub inside : unitIn timing (four l 1) < p .bars * barUnits
   pub room : length (p .onsets) < 512
   pub few : inBar (barOf (unitIn timing (four l 1))) (p .onsets) < 32
 
@@ -154,7 +166,7 @@ onset-passed timing p last l e =
     let e₂ = first-zero (momentRefusal (p .bars) timing last (four l 1)) _ (e₁ .1) in
     let moment = moment-passed (p .bars) timing last (four l 1) (e₂ .0) in
     let room = room-passed _ _ (e₂ .1) in
-    record { pitch = form-passed l (e₁ .0); rises = moment .0; inside = moment .1; room = room .0; few = room .1 }
+    record { pitch = form-passed l (e₁ .0); rises = moment .0; inside = moment .2; room = room .0; few = room .1 }
 
 -- a line that is not refused, and one that is
 pub read-on : (r : Progress) (n : ℕ) (b : List ℕ) (ls : List (List ℕ)) → refusal r b ≡ 0
@@ -204,3 +216,21 @@ module _ (t : List ℕ) where
   pub well-formed : length t ≤ 16384 → badLine t ≡ 0 → readSheet t ≡ readLines nothing 1 (lines t)
   unfolding readFormed
   well-formed h e = formed h ∙ ap (λ (x : ℕ). readFormed x t) e
+
+-- an accepted text is not too long, has no bad line, and is read line by line
+module _ (t : List ℕ) (x : TimedSheet) (e : readSheet t ≡ accepted x) where
+  accepted-fits : length t ≤ 16384
+  accepted-fits = elim (decLe (length t) 16384) [
+    | yes h ↦ h
+    | no h ↦ absurd (accepted-not-refused (sym e ∙ too-long t (omega arith)))
+  ]
+
+  pub accepted-formed : badLine t ≡ 0
+  accepted-formed = go (badLine t) refl
+    where
+      go : (b : ℕ) → badLine t ≡ b → b ≡ 0
+      go zero q = refl
+      go (suc b) q = absurd (accepted-not-refused (sym e ∙ ill-formed t accepted-fits (suc b) (sym q) (λ z. omega arith)))
+
+  pub accepted-lines : readLines nothing 1 (lines t) ≡ accepted x
+  accepted-lines = sym (well-formed t accepted-fits accepted-formed) ∙ e

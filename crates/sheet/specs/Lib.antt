@@ -2,6 +2,7 @@ pub mod Sheet
 pub mod Outcome
 pub mod Reading
 pub mod Clock
+pub mod Nearest
 pub mod Held
 pub mod Children
 pub mod Good
@@ -20,4 +21,7 @@ pub mod Rest
 pub mod Literal
 pub mod Cases
 pub mod LineCases
+pub mod UnitCases
+pub mod OnsetLines
+pub mod UnitsRead
 pub mod Refuted

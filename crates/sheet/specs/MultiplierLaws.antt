@@ -3,7 +3,6 @@
 use Prim.Native.Nat.{ℕ, zero, suc, _+_, _*_, _/_, _%_, _<_, _≤_}
 use mathlib.Core.Path.{_≡_, refl, sym, ap, ap₂, subst, _∙_}
 use mathlib.Core.List.{List, [], _∷_, _++_, head-eq-of-cons-eq, tail-eq-of-cons-eq}
-use native.Mathlib.Decide.{decLe}
 use native.Mathlib.Nat.{mod-lt, div-add-mod'}
 use native.Mathlib.Omega.{arith}
 use borrow.Author.Tests.{eqb-true}
@@ -20,7 +19,7 @@ use Rattle.sheet.specs.Multiplier.{withMultiplier, butMultiplier, AlikeT
 use Rattle.sheet.specs.Outcome.{accepted, accepted-not-refused, accepted-value}
 use Rattle.sheet.specs.Reading.{byte, headRefusal, nothing, refusal, readLines, readSheet}
 use Rattle.sheet.specs.Accepted.{Accepts}
-use Rattle.sheet.specs.Laws.{demand-zero, cond-zero, read-stop, too-long, ill-formed, well-formed}
+use Rattle.sheet.specs.Laws.{demand-zero, cond-zero, read-stop, accepted-formed, accepted-lines}
 use Rattle.sheet.specs.HeadLines.{meaningWith, Around, head, headed, Small, small-with, headed-lines, same-head, headed-alike}
 
 -- ---- an accepted text begins with a line of five bytes
@@ -47,22 +46,11 @@ abbrev outside : Around → List (List ℕ)
 outside c = (c .kind ∷ c .q ∷ c .start ∷ []) ∷ lines (c .rest)
 
 module _ (t : List ℕ) (m : TimedSheet) (e : readSheet t ≡ accepted m) where
-  -- it is not too long, and no line is bad
-  fits : length t ≤ 16384
-  fits = elim (decLe (length t) 16384) [
-    | yes h ↦ h
-    | no h ↦ absurd (accepted-not-refused (sym e ∙ too-long t (omega arith)))
-  ]
-
   formed : badLine t ≡ 0
-  formed = go (badLine t) refl
-    where
-      go : (b : ℕ) → badLine t ≡ b → b ≡ 0
-      go zero q = refl
-      go (suc b) q = absurd (accepted-not-refused (sym e ∙ ill-formed t fits (suc b) (sym q) (λ z. omega arith)))
+  formed = accepted-formed t m e
 
   by-lines : readLines nothing 1 (lines t) ≡ accepted m
-  by-lines = sym (well-formed t fits formed) ∙ e
+  by-lines = accepted-lines t m e
 
   abbrev l : List ℕ
   l = lineBytes t

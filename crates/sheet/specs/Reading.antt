@@ -7,7 +7,7 @@ use lib.ListN.{length, getD}
 use lib.Dec.{ltb, leb, eqb}
 use Rattle.hextext.specs.Text.{badLine, lines}
 use Rattle.sheet.specs.Sheet.{Rule, division, leaf, Onset, Grammar, Playing, Sheet, Timing, TimedSheet, unitOf, unitIn, endOf}
-use Rattle.sheet.specs.Sheet.{barOf, inBar}
+use Rattle.sheet.specs.Sheet.{barUnits, barOf, inBar}
 use Rattle.sheet.specs.Outcome.{Outcome, refused, accepted, andThen}
 
 -- a demand: the number of the refusal where the test fails, and what comes after it where it holds; 0 is no refusal
@@ -119,12 +119,14 @@ onsetForm l =
     (demand (leb (byte l 6) 127) 5
     0)))
 
--- a moment t: time below the one before, `last` (6); time at or past B × duration (7)
+-- a moment t: time below the one before, `last` (6); time at or past B × duration (7); "refusal 7 also comes when the unit reaches
+-- B × 20,160" (document 02, (v))
 unfoldable pub momentRefusal : (bars : ℕ) → Timing → (last t : ℕ) → ℕ
 momentRefusal bars timing last t =
     demand (leb last t) 6
     (demand (ltb t (endOf bars timing)) 7
-    0)
+    (demand (ltb (unitIn timing t) (bars * barUnits)) 7
+    0))
 
 -- room for an onset: onset 513, onset 33 of a bar (8). `before` is the number of onsets before it, `here` of those in its bar
 unfoldable pub roomRefusal : (before here : ℕ) → ℕ

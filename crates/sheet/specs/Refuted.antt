@@ -3,10 +3,15 @@ use Prim.Native.Nat.{ℕ}
 use mathlib.Core.Path.{_≡_, sym, ap, _∙_}
 use mathlib.Core.List.{List, _++_}
 use native.Mathlib.Omega.{arith}
+use lib.ListN.{getD}
+use Rattle.slices.specs.Over.{over}
+use Rattle.slices.specs.Pad.{pad}
 use Rattle.sheet.specs.declared.table.Reading.{Reading}
 use Rattle.sheet.specs.Literal.{textOf, times}
 use Rattle.sheet.specs.Reading.{readSheet}
-use Rattle.sheet.specs.Held.{readingOf, Reads}
+use Rattle.sheet.specs.Held.{units, playingTable, readingOf, Reads}
+use Rattle.sheet.specs.Cases.{grammarS, headS, onsets33}
+use Rattle.sheet.specs.UnitCases.{half-unit, crowded-in-time}
 
 -- 5 for the head of a `44` line where the length's 4 comes first
 head-before-length : (r : Reading) → Reads (textOf "470200000A\n440200060201\n") r → r .number ≡ 5 → ⊥
@@ -19,3 +24,24 @@ division-64-refused : (r : Reading)
     → r .number ≡ 8 → ⊥
 unfolding readSheet readingOf
 division-64-refused r h e = let z : _≡_ {A = ℕ} 8 3 = sym e ∙ ap (λ (x : Reading). x .number) h in omega arith
+
+-- a half downwards: unit 0 for an onset at half a unit
+half-downwards : (r : Reading) → Reads half-unit r → getD (r .playing .units) 0 (units 0) .0 ≡ 0 → ⊥
+unfolding readSheet readingOf playingTable pad over
+half-downwards r h e =
+    let z : _≡_ {A = ℕ} 0 1 = sym e ∙ ap (λ (x : Reading). getD (x .playing .units) 0 (units 0) .0) h in omega arith
+
+-- an onset taken that is before the end in time and rounded up to it
+end-let-through : (r : Reading) → Reads (grammarS ++ headS ++ textOf "4E001E847F3C40\n") r → r .number ≡ 0 → ⊥
+unfolding readSheet readingOf
+end-let-through r h e = let z : _≡_ {A = ℕ} 0 7 = sym e ∙ ap (λ (x : Reading). x .number) h in omega arith
+
+-- the bar counted from the time: onset 33 of a bar taken where one of them is rounded up to its bar line, and one refused that is rounded
+-- up into the next bar
+bar-from-time-taken : (r : Reading) → Reads onsets33 r → r .number ≡ 0 → ⊥
+unfolding readSheet readingOf
+bar-from-time-taken r h e = let z : _≡_ {A = ℕ} 0 8 = sym e ∙ ap (λ (x : Reading). x .number) h in omega arith
+
+bar-from-time-refused : (r : Reading) → Reads crowded-in-time r → r .number ≡ 8 → ⊥
+unfolding readSheet readingOf
+bar-from-time-refused r h e = let z : _≡_ {A = ℕ} 8 0 = sym e ∙ ap (λ (x : Reading). x .number) h in omega arith

@@ -44,9 +44,10 @@ pub record TimedSheet : Type 0 where
 abbrev pub barUnits : ℕ
 barUnits = 20160
 
--- "An onset at t microseconds is at unit floor(t × 20,160 / duration), counted from the first bar"
+-- "An onset now goes to the nearest unit, an exact half upwards" (document 02, (v)), counted from the first bar: t × 20,160 / duration and
+-- a half, rounded down. `Nearest.unit-nearest` says that it is the nearest
 unfoldable pub unitOf : (duration t : ℕ) → ℕ
-unitOf duration t = t * barUnits / duration
+unitOf duration t = (2 * (t * barUnits) + duration) / (2 * duration)
 
 -- the unit of a moment, and the moment at which a playing of so many bars ends
 abbrev pub unitIn : Timing → (moment : ℕ) → ℕ

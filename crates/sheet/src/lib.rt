@@ -9,6 +9,7 @@ pub use clock::BAR_UNITS;
 pub use clock::Micros;
 pub use clock::PIECE_UNITS;
 pub use clock::Units;
+pub use clock::first_past_end;
 pub use clock::unit_of;
 pub use limits::BAR_ONSETS_MOST;
 pub use limits::BARS_MOST;

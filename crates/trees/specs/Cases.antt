@@ -76,11 +76,11 @@ rested t = grammarS ++ textOf "4C01000204\n" ++ headS ++ textOf "4E" ++ t ++ tex
 abbrev pub paper : List Case
 paper =
     case S (least (1 ∷ 3 ∷ 3 ∷ []) 8 1008 1088)
-    ∷ case (later (textOf "0007A11F")) (least (0 ∷ []) 1 5039 5049)
+    ∷ case (later (textOf "0007A11F")) (least (0 ∷ []) 1 5040 5050)
     ∷ case (later (textOf "0007A120")) (least (0 ∷ []) 1 5040 5050)
-    ∷ case (later (textOf "000F423F")) (least (0 ∷ []) 1 10079 10089)
+    ∷ case (later (textOf "000F423F")) no-tree
     ∷ case (later (textOf "000F4240")) no-tree
-    ∷ case (grammarS ++ textOf "4502001E8480\n4E000000003C40\n4E001E847F3E40\n") (least (0 ∷ 0 ∷ []) 2 1 21)
+    ∷ case (grammarS ++ textOf "4502001E8480\n4E000000003C40\n4E001E847F3E40\n") (least (0 ∷ 0 ∷ []) 2 0 20)
     ∷ case (grammarS ++ headS ++ textOf "4E000000003C40\n4E000000003E40\n") no-tree
     ∷ case S (no-valid (0 ∷ []))
     ∷ []
@@ -116,7 +116,7 @@ second-best = case two-ways (least (0 ∷ 1 ∷ 5 ∷ []) 0 4080 4080) ∷ case 
 abbrev two-bars : List ℕ
 two-bars =
     textOf "4703000001\n4C00000000\n4C00000001\n44001770020101\n4C01000004\n4C01000001\n44010000020202\n4C02000004\n4C02000001\n"
-    ++ textOf "4C00000004\n4502001E8480\n4E001702A03C40\n"
+    ++ textOf "4C00000004\n4502001E8480\n4E001702603C40\n"
 
 abbrev over-bar-line : List Case
 over-bar-line =
@@ -153,7 +153,7 @@ late-ones n = textOf "4703000001\n44000000020102\n4C01000004\n4C02000003\n450100
 abbrev three-late : List Case
 three-late = case (late-ones 3) (priced (0 ∷ 1 ∷ 2 ∷ []) 0 12240) ∷ case (late-ones 4) (no-valid (0 ∷ 1 ∷ 2 ∷ [])) ∷ []
 
--- "n = m for m up to 2": two at once; "k equal parts": an onset on the second third
+-- "n = m for m up to 2": two at once; "k equal parts": an onset on the second third, which a machine makes at 666,666
 abbrev two-placed : List Case
 two-placed =
     case (textOf "4701000001\n4C00000202\n4501001E8480\n" ++ times 2 (textOf "4E000000003C40\n")) (least (0 ∷ []) 2 0 2) ∷ []
@@ -163,7 +163,7 @@ in-thirds t =
     textOf "4702000001\n4400000003010101\n4C01000000\n4C01000001\n4C01000004\n4501001E8480\n4E" ++ t ++ textOf "3C40\n"
 
 abbrev thirds : List Case
-thirds = case (in-thirds (textOf "000A2C2B")) (least (0 ∷ 3 ∷ 2 ∷ 1 ∷ []) 0 0 0) ∷ []
+thirds = case (in-thirds (textOf "000A2C2A")) (least (0 ∷ 3 ∷ 2 ∷ 1 ∷ []) 0 0 0) ∷ []
 
 -- "only if k divides the length": an eighth of an eighth has 315 units, which 3 divides and 2 does not
 abbrev eighths : List ℕ
@@ -204,12 +204,13 @@ late-inside =
     ∷ case (rested (textOf "000F4240")) (least (1 ∷ 4 ∷ 3 ∷ []) 9 0 90)
     ∷ []
 
--- in the middle of a division's parts: the second third is a rest, without an onset and with one that is late
+-- in the middle of a division's parts: the second third is a rest, without an onset and with one that is late. The third third is document
+-- 02's, "at 1,333,333 microseconds": "perfect playing" costs nothing
 abbrev rest-between : List Case
 rest-between =
-    case (in-thirds (textOf "00145856")) (least (0 ∷ 3 ∷ 3 ∷ 2 ∷ []) 0 0 0)
+    case (in-thirds (textOf "00145855")) (least (0 ∷ 3 ∷ 3 ∷ 2 ∷ []) 0 0 0)
     ∷ case (in-thirds (textOf "00122A50")) (priced (0 ∷ 3 ∷ 3 ∷ 2 ∷ []) 0 1440)
-    ∷ case (in-thirds (textOf "00145856")) (no-valid (0 ∷ 3 ∷ 1 ∷ 2 ∷ []))
+    ∷ case (in-thirds (textOf "00145855")) (no-valid (0 ∷ 3 ∷ 1 ∷ 2 ∷ []))
     ∷ []
 
 abbrev pub cases : List Case

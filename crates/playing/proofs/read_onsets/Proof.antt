@@ -3,7 +3,7 @@
 use borrow.Author.Needs.{needs}
 use native.Mathlib.Omega.{arith}
 use Prim.Native.Nat.{_-_, _<_}
-use mathlib.Core.Path.{refl}
+use mathlib.Core.Path.{refl, sym}
 use native.Mathlib.Nat.{le-trans, le-of-eq}
 use lib.ListN.{length}
 use Rattle.hextext.specs.Laws.{line-falls}
@@ -48,7 +48,12 @@ onset-step-requires : tie.Need-onset-step-requires Inv-loop μ-loop
 onset-step-requires c κs =
     let at-line = c .before .before in
     let so = at-line .before .before .loop .inv in
-    le-trans (le-of-eq (so .bars-are)) (so .good .onsets .sixty-four)
+    let good = so .good in
+    record {
+      one = le-trans (good .onsets .one) (le-of-eq (sym (so .bars-are)));
+      sixty-four = le-trans (le-of-eq (so .bars-are)) (good .onsets .sixty-four);
+      time = good .time;
+    }
 
 refused-take-requires-2 : tie.Need-refused-take-requires-2 Inv-loop μ-loop
 refused-take-requires-2 c κs = search needs

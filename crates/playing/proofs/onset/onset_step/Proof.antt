@@ -2,7 +2,6 @@
 -- enough for the room in a bar. Assumes nothing.
 use borrow.Author.Needs.{needs}
 use native.Mathlib.Omega.{arith}
-use native.Mathlib.Nat.{lt-of-lt-of-le, mul-le-mul-right}
 use Prim.Native.Nat.{ℕ, _+_}
 use mathlib.Core.Path.{_≡_, _∙_, sym, ap}
 use lib.ListN.{length}
@@ -11,50 +10,55 @@ use Rattle.sheet.specs.Sheet.{Grammar, Playing, Timing, unitIn, barOf, inBar}
 use Rattle.sheet.specs.Reading.{four, roomRefusal, inOnsets, refusal}
 use Rattle.sheet.specs.Held.{LineHeld, micros}
 use Rattle.sheet.specs.SoFar.{GoodSoFar}
-use Rattle.sheet.specs.Laws.{moment-passed, room-passed}
+use Rattle.sheet.specs.Laws.{room-passed}
 use Rattle.playing.specs.Contracts.{timingIn, latestOf}
 use Rattle.playing.proofs.OnsetSteps.{other-line, step-stopped, by-form, by-moment, by-room, moment-is, here-is, run-more}
 use Rattle.playing.proofs.onset.onset_step.Statement.{statement}
 use Rattle.playing.proofs.onset.onset_step.Tie as tie
 
--- where the room has been asked for: the call, and its timing and unit
+-- where the room has been asked for: the moment before it, the call, and its timing
+abbrev moment-at : tie.After-room-refusal → tie.After-moment-of
+moment-at c = c .before .before .before .before .before
+
 abbrev start-of : tie.After-room-refusal → tie.Start
-start-of c =
-    let at-form = c .before .before .before .before .before .before .before .before in
-    at-form .before .before .before
+start-of c = moment-at c .before .before .before .before .before .before
 
 abbrev timing-of : tie.After-room-refusal → Timing
 timing-of c = timingIn (start-of c .args .timing)
 
+-- the moment is not refused, and so has its unit
+met : (c : tie.After-room-refusal) → moment-at c .moment-of .result .number ≡ 0
+met c = c .before .before .before .before .if3 .left
+
 unit-is : (c : tie.After-room-refusal) (b : List ℕ) → LineHeld (start-of c .args .l) b
-    → c .before .before .before .unit-of .result .0 ≡ unitIn (timing-of c) (four b 1)
+    → moment-at c .moment-of .result .unit .0 ≡ unitIn (timing-of c) (four b 1)
 unit-is c b h =
-    let at-unit = c .before .before .before in
-    at-unit .unit-of .ensures .0 ∙ ap (unitIn (timing-of c)) (at-unit .before .before .before .four-at .ensures b h)
+    let at-moment = moment-at c in
+    at-moment .moment-of .ensures .unit (met c) ∙ ap (unitIn (timing-of c)) (at-moment .before .four-at .ensures b h)
 
 module _ (c : tie.After-room-refusal) (b : List ℕ) (h : LineHeld (start-of c .args .l) b)
     (g : Grammar) (p : Playing) (last : ℕ) (good : GoodSoFar (timing-of c) p last)
     (eb : start-of c .args .bars ≡ p .bars) (en : start-of c .args .count ≡ length (p .onsets))
     (es : start-of c .args .latest ≡ latestOf (timing-of c) p last) where
+  abbrev at-moment : tie.After-moment-of
+  at-moment = moment-at c
+
   -- the code's count of the onsets in the bar is the playing's
   here : c .before .run-in .result ≡ inBar (barOf (unitIn (timing-of c) (four b 1))) (p .onsets)
   here =
-      let at-unit = c .before .before .before in
-      let at-moment = at-unit .before .before in
       here-is g (timing-of c) p last b good (start-of c .args .bars) (start-of c .args .count) (start-of c .args .latest) eb en
       es _ _ _
-      (at-moment .before .four-at .ensures b h) (sym (at-moment .moment-refusal .ensures) ∙ at-unit .before .if3 .left)
-      (at-unit .unit-of .ensures .0) (c .before .run-in .ensures)
+      (at-moment .before .four-at .ensures b h) (sym (at-moment .moment-of .ensures .number) ∙ met c)
+      (at-moment .moment-of .ensures .unit (met c)) (c .before .run-in .ensures)
 
   -- so the room decides
   decided : refusal (inOnsets g (timing-of c) p last) b ≡ c .room-refusal .result
   decided =
-      let at-moment = c .before .before .before .before .before in
       let at-form = at-moment .before .before .before in
       by-room g (timing-of c) p last b (sym (h .kind) ∙ at-form .before .if1 .left)
       (sym (at-form .form-refusal .ensures b h) ∙ at-moment .before .before .if2 .left)
       (sym (moment-is g (timing-of c) p last b good _ _ _ eb en es _ (at-moment .before .four-at .ensures b h))
-      ∙ sym (at-moment .moment-refusal .ensures) ∙ c .before .before .before .before .if3 .left)
+      ∙ sym (at-moment .moment-of .ensures .number) ∙ met c)
       ∙ sym (c .room-refusal .ensures ∙ (λ j. roomRefusal (en j) (here j)))
 
 refused-step-requires : tie.Need-refused-step-requires
@@ -87,8 +91,8 @@ returns-2 c b h g p last good eb en es =
 four-at-requires : tie.Need-four-at-requires
 four-at-requires c κs = search needs
 
-moment-refusal-requires : tie.Need-moment-refusal-requires
-moment-refusal-requires c κs = search needs
+moment-of-requires : tie.Need-moment-of-requires
+moment-of-requires c κs = c .before .before .before .before .before .pre
 
 refused-step-requires-3 : tie.Need-refused-step-requires-3
 refused-step-requires-3 c κs = search needs
@@ -102,19 +106,11 @@ returns-3 c b h g p last good eb en es =
     let at-if2 = at-four .before in
     let at-form = at-if2 .before in
     let at-if1 = at-form .before in
-    let moment = at-moment .moment-refusal .ensures ∙ moment-is g _ p last b good _ _ _ eb en es _ (at-four .four-at .ensures b h) in
+    let moment = at-moment .moment-of .ensures .number ∙ moment-is g _ p last b good _ _ _ eb en es _ (at-four .four-at .ensures b h) in
     let f = at-if3 .if3 .taken in
     let formed = sym (at-form .form-refusal .ensures b h) ∙ at-if2 .if2 .left in
     step-stopped g _ p last b (c .refused-step3 .result) _ (c .refused-step3 .ensures)
     (by-moment g _ p last b (sym (h .kind) ∙ at-if1 .if1 .left) formed (λ z. f (moment ∙ z)) ∙ sym moment) f
-
-unit-of-requires : tie.Need-unit-of-requires
-unit-of-requires c κs =
-    let at-moment = c .before in
-    let at-start = at-moment .before .before .before .before .before .before in
-    let within = moment-passed (at-start .args .bars) (timingIn (at-start .args .timing)) _ _
-    (sym (at-moment .moment-refusal .ensures) ∙ c .if3 .left) in
-    lt-of-lt-of-le (within .1) (mul-le-mul-right (at-start .args .timing .duration .0) (at-start .pre))
 
 run-in-requires : tie.Need-run-in-requires
 run-in-requires c κs = search needs
@@ -133,8 +129,8 @@ returns-4 c b h g p last good eb en es =
     step-stopped g _ p last b (c .refused-step4 .result) _ (c .refused-step4 .ensures) (decided at-room b h g p last good eb en es)
     (at-if4 .if4 .taken)
 
-add-t15 : tie.Need-add-t15
-add-t15 c =
+add-t16 : tie.Need-add-t16
+add-t16 c =
     let at-room = c .before in
     let few = room-passed _ _ (sym (at-room .room-refusal .ensures) ∙ c .if4 .left) .1 in
     record { fits = omega (arith, few) }
@@ -143,7 +139,7 @@ add-t15 c =
 returns-5 : tie.Need-returns-5
 returns-5 c b h g p last good eb en es =
     let at-room = c .before in
-    let at-four = at-room .before .before .before .before .before .before in
+    let at-four = moment-at at-room .before in
     record {
       number = sym (decided at-room b h g p last good eb en es ∙ c .if4 .left);
       unit = λ z. unit-is at-room b h;
@@ -164,13 +160,12 @@ onset-step-spec =
     refused-step-requires-2
     returns-2
     four-at-requires
-    moment-refusal-requires
+    moment-of-requires
     refused-step-requires-3
     returns-3
-    unit-of-requires
     run-in-requires
     room-refusal-requires
     refused-step-requires-4
     returns-4
-    add-t15
+    add-t16
     returns-5)
