@@ -124,8 +124,8 @@ pub line-fields : (text : List ℕ) (at : ℕ) → at < length text → (l : Lin
     → LineHeld l (lineBytes (drop at text))
 line-fields text at inside l is filled = rest-held text at inside l is filled
 
--- ==== Document 02, (v), thirds that land. "An onset now goes to the nearest unit, an exact half upwards": an accepted text has an onset for
--- each of its `4E` lines, in order, and each is at the unit nearest to its line's time. There is one such unit.
+-- ==== Document 02, (v), thirds that land. "An onset now goes to the nearest unit, an exact half upwards": an accepted text has an onset
+-- for each of its `4E` lines, in order, and each is at the unit nearest to its line's time. There is one such unit.
 pub read-nearest : (text : List ℕ) (r : Reading) → Reads text r → r .number ≡ 0
     → (r .playing .count ≡ length (onsetLines (lines text)))
     × ((i : ℕ) → i < r .playing .count → NearestUnit (r .timing .duration .0) (timeAt text i) (unitAt r i))
@@ -134,8 +134,8 @@ read-nearest text r e z = let u = units-read text r e z in (u .count, u .nearest
 pub nearest-only : (d t u v : ℕ) → NearestUnit d t u → NearestUnit d t v → u ≡ v
 nearest-only = nearest.nearest-only
 
--- "So perfect playing costs one unit" no more: the moment of a unit, rounded down to a microsecond as a machine does, is at that unit, in bars
--- of 40,320 microseconds or more.
+-- "So perfect playing costs one unit" no more: the moment of a unit, rounded down to a microsecond as a machine does, is at that unit, in
+-- bars of 40,320 microseconds or more.
 pub perfect-lands : (d u : ℕ) → 2 * barUnits ≤ d → NearestUnit d (u * d / barUnits) u
 perfect-lands = nearest.perfect-lands
 

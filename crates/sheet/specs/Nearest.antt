@@ -77,7 +77,8 @@ rounded-nearest d t u r =
 pub unit-nearest : (d t : ℕ) → 0 < d → NearestUnit d t (unitOf d t)
 unit-nearest d t p = rounded-nearest d t (unitOf d t) (unit-rounded d t p)
 
--- "Thirds that land": the moment of unit u, rounded down to a microsecond, is nearest to unit u, where a unit lasts two microseconds or more
+-- "Thirds that land": the moment of unit u, rounded down to a microsecond, is nearest to unit u, where a unit lasts two microseconds or
+-- more
 pub perfect-lands : (d u : ℕ) → 2 * barUnits ≤ d → NearestUnit d (u * d / barUnits) u
 perfect-lands d u h =
     let t = u * d / barUnits in

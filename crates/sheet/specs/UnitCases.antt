@@ -15,6 +15,7 @@ unfoldable pub unitsIn : Outcome TimedSheet → List ℕ
 unitsIn (refused k n) = []
 unitsIn (accepted x) = map (λ (o : Onset). o .unit) (x .sheet .playing .onsets)
 
+-- a text and the units of its onsets
 pub record UnitCase : Type 0 where
   pub text : List ℕ
   pub units : List ℕ

@@ -1,5 +1,5 @@
--- What `read`'s contract says of units (`units-read`): where it gives 0 there is an onset for each `4E` line of the text, in order, and each is
--- at the unit nearest to its line's time.
+-- What `read`'s contract says of units (`units-read`): where it gives 0 there is an onset for each `4E` line of the text, in order, and
+-- each is at the unit nearest to its line's time.
 use Prim.Native.Nat.{ℕ, zero, suc, _<_}
 use mathlib.Core.Path.{_≡_, refl, ap, _∙_}
 use mathlib.Core.List.{List, [], _∷_, map}
@@ -24,6 +24,7 @@ timeAt text i = four (getD (onsetLines (lines text)) i []) 1
 abbrev pub unitAt : Reading → (i : ℕ) → ℕ
 unitAt r i = getD (r .playing .units) i (units 0) .0
 
+-- a reading has an onset for each `4E` line of the text, in order, and each is at the unit nearest to its line's time
 pub record UnitsRead (text : List ℕ) (r : Reading) : Type 0 where
   pub count : r .playing .count ≡ length (onsetLines (lines text))
   pub nearest : (i : ℕ) → i < r .playing .count → NearestUnit (r .timing .duration .0) (timeAt text i) (unitAt r i)
