@@ -3,7 +3,7 @@
 //! that are hardly trees at all, and lists beside refused texts; and two fixed
 //! trees for timing.
 
-use crate::moments::{self, any_time_of, time_of};
+use crate::moments::{self, any_time_of, first_times, FIXED_DURATION};
 use crate::peer::{self, Rule, Sheet, BAR_UNITS};
 use crate::sheets::{self, Dice, Outcome, REST};
 use crate::trees::NO_TREE;
@@ -107,20 +107,8 @@ pub fn played(
     played_at(dice, lines, bars, duration, &times)
 }
 
-/// The same with each onset at the first time of its unit. Nothing is thrown for a
-/// time, so that the fixed sheets have the other lines that they always had.
-pub fn played_first(
-    dice: &mut Dice,
-    lines: Vec<Vec<u8>>,
-    bars: usize,
-    duration: usize,
-    units: &[usize],
-) -> Vec<u8> {
-    let times = units.iter().map(|&unit| time_of(unit, duration));
-    played_at(dice, lines, bars, duration, &times.collect::<Vec<usize>>())
-}
-
-fn played_at(
+/// The text of a grammar and onsets at times, which are in order.
+pub fn played_at(
     dice: &mut Dice,
     mut lines: Vec<Vec<u8>>,
     bars: usize,
@@ -731,7 +719,8 @@ fn fixed(
         let mut dice = Dice::new(seed);
         let lines = plain_grammar(&mut dice, 2, arities);
         let units = units_by_bar(&mut dice, bars, units_of_bar);
-        let text = played_first(&mut dice, lines, bars, 1_987_654, &units);
+        let times = first_times(&units, FIXED_DURATION);
+        let text = played_at(&mut dice, lines, bars, FIXED_DURATION, &times);
         let list = grown_to(&mut dice, &accepted(&text), None, shortest, NEVER)?;
         Some((text, list))
     };

@@ -8,6 +8,9 @@ use std::ops::Range;
 
 pub const BAR: usize = BAR_UNITS as usize;
 
+/// A bar of the fixed sheets for timing: two seconds, nearly.
+pub const FIXED_DURATION: usize = 1_987_654;
+
 /// The first time at a unit or past it: from half a unit before it on.
 pub fn first_time(unit: usize, duration: usize) -> usize {
     ((2 * unit).saturating_sub(1) * duration).div_ceil(2 * BAR)
@@ -33,6 +36,12 @@ pub fn any_of(dice: &mut Dice, times: Range<usize>) -> usize {
 pub fn time_of(unit: usize, duration: usize) -> usize {
     let bar = times_of_bar(unit / BAR, duration);
     first_time(unit, duration).min(bar.end - 1)
+}
+
+/// Each unit's first time. Nothing is thrown for it, so that the fixed sheets have the
+/// other lines that they always had.
+pub fn first_times(units: &[usize], duration: usize) -> Vec<usize> {
+    units.iter().map(|&unit| time_of(unit, duration)).collect()
 }
 
 /// Any time at a unit, and where it has none the one that `time_of` gives.

@@ -1,7 +1,7 @@
 //! Sheets to compare on: valid ones, ones damaged on purpose, and texts that
 //! are hardly sheets at all; and one fixed sheet for timing the reading.
 
-use crate::moments::{self, first_time, time_in, times_of_bar, BAR};
+use crate::moments::{self, first_time, time_in, times_of_bar, BAR, FIXED_DURATION};
 use crate::rounding;
 
 /// A refusal's number and line; (0, 0) for an accepted sheet.
@@ -994,15 +994,14 @@ fn made(dice: &mut Dice) -> Case {
 pub fn timing_sheet() -> Vec<u8> {
     const NONTERMINALS: usize = 4;
     const BARS: usize = 24;
-    const DURATION: usize = 1_987_654;
     let mut dice = Dice::new(512);
     let mut lines = vec![grammar_head(&mut dice, NONTERMINALS)];
     for arity in [2, 3, 2, 3, 2, 3] {
         lines.push(division(&mut dice, NONTERMINALS, arity));
         lines.push(leaf_up_to(&mut dice, NONTERMINALS, REST - 1));
     }
-    lines.push(playing_head(BARS, DURATION));
-    let step = BARS * DURATION / MAX_ONSETS;
+    lines.push(playing_head(BARS, FIXED_DURATION));
+    let step = BARS * FIXED_DURATION / MAX_ONSETS;
     for at in 0..MAX_ONSETS {
         let time = at * step + dice.below(step);
         lines.push(onset(&mut dice, time));

@@ -1,13 +1,12 @@
 //! Sheets for timing the search, always the same: tunes of any number of bars,
 //! and the heaviest sheets.
 
-use crate::lists::{eight_anywhere, leaf_of, played_first, units_by_bar};
+use crate::lists::{eight_anywhere, leaf_of, played_at, units_by_bar};
+use crate::moments::{first_times, FIXED_DURATION};
 use crate::orders::Order;
 use crate::peer::BAR_UNITS;
 use crate::sheets::{self, Dice};
 
-/// A bar of two seconds, nearly.
-const DURATION: usize = 1_987_654;
 const BEAT: usize = BAR_UNITS as usize / 4;
 
 // Tunes under a grammar of halves and thirds.
@@ -47,7 +46,8 @@ pub fn tune(bars: usize) -> Vec<u8> {
         }
     }
     let units = units_by_bar(&mut dice, bars, eight_in_beats);
-    played_first(&mut dice, lines, bars, DURATION, &units)
+    let times = first_times(&units, FIXED_DURATION);
+    played_at(&mut dice, lines, bars, FIXED_DURATION, &times)
 }
 
 /// A bar of four beats of one, two, two and three onsets in any order.
@@ -105,7 +105,8 @@ fn heaviest_in(order: Order, dividing: usize, arities: impl Fn(usize) -> Vec<usi
     lines.extend(order.of(&rules));
     let mut units = units_by_bar(&mut dice, BARS, eight_anywhere);
     units[0] = 0;
-    played_first(&mut dice, lines, BARS, DURATION, &units)
+    let times = first_times(&units, FIXED_DURATION);
+    played_at(&mut dice, lines, BARS, FIXED_DURATION, &times)
 }
 
 /// A rule of a small weight: heavy ones would settle where to divide early.

@@ -1,10 +1,10 @@
 -- Laws of the conversion from microseconds to units.
-use Prim.Native.Nat.{ℕ, _+_, _-_, _*_, _/_, _^_, _≤_, _<_}
+use Prim.Native.Nat.{ℕ, _-_, _*_, _/_, _^_, _≤_, _<_}
 use mathlib.Core.Path.{_≡_, ap}
 use native.Mathlib.Omega.{arith}
 use native.Mathlib.Nat.{mul-le-mul, le-div-iff-mul-le, div-lt-iff-lt-mul, div-mul-le-self, le-trans}
 use Rattle.sheet.specs.Sheet.{barUnits, unitOf, barOf}
-use Rattle.sheet.specs.Nearest.{Rounded, rounded-unit}
+use Rattle.sheet.specs.Nearest.{rounded-unit}
 
 -- B × duration fits 32 bits
 pub end-fits : {b d : ℕ} → b ≤ 64 → d ≤ 60_000_000 → b * d < 2 ^ 32

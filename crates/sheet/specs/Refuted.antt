@@ -1,7 +1,7 @@
 -- Wrong answers that the contract of `read` rules out, by computation: what each would give, and that the contract is false of it.
 use Prim.Native.Nat.{ℕ}
 use mathlib.Core.Path.{_≡_, sym, ap, _∙_}
-use mathlib.Core.List.{List, _++_}
+use mathlib.Core.List.{_++_}
 use native.Mathlib.Omega.{arith}
 use lib.ListN.{getD}
 use Rattle.slices.specs.Over.{over}
