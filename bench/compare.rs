@@ -4,12 +4,16 @@
 //! Arguments, all optional: a part, `reading`, `pricing`, `finding` or `sliding`
 //! (all without it), then a seed and a number of inputs for each part.
 
+mod answers;
+mod bar_lines;
 mod facts;
 mod features;
 mod finding;
+mod fixed;
 mod grammars;
 mod harness;
 mod heads;
+mod lengths;
 mod library;
 mod listing;
 mod lists;
@@ -17,6 +21,7 @@ mod moments;
 mod multipliers;
 mod ordering;
 mod orders;
+mod playing;
 mod pricing;
 mod reading;
 mod rounded;
@@ -27,9 +32,13 @@ mod sheets;
 mod slides;
 mod sliding;
 mod takes;
+mod tap_refusals;
+mod tapped;
+mod tapping;
 mod timing;
 mod trees;
 mod tunes;
+mod twins;
 
 use std::process::ExitCode;
 use trees::peer;

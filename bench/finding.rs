@@ -4,13 +4,15 @@
 //! figures expected are the price of the peer's tree, to which its total is held.
 
 use crate::features::Features;
-use crate::harness::{dirt, same, Difference, Outcomes};
+use crate::harness::{all_occurred, dirt, dirty_cells, same, Difference, Outcomes};
+use crate::lengths::{longer, short_lengths};
 use crate::peer::{self, Sheet};
+use crate::playing::BySort;
 use crate::rounded::Rounded;
 use crate::search::Search;
 use crate::sheets::{Case, Dice};
 use crate::trees::{self, Price};
-use crate::{library, takes, timing};
+use crate::{library, takes, timing, twins};
 
 pub const WORK_SHORT: u8 = 9;
 pub const TREE_SHORT: u8 = 10;
@@ -18,10 +20,12 @@ pub const NO_TREE: u8 = 11;
 
 /// Cells and bytes before and after a lent slice, which must be kept too.
 const AROUND: usize = 16;
+/// One sheet in so many, if it is plain, is also compared as its tapped twin.
+const TWIN_EVERY: usize = 8;
 
 /// Gives whether no difference was found, every outcome occurred, enough trees were
 /// the first of several, the rules of heads stood in every way that is counted, and
-/// onsets were rounded in every such way.
+/// onsets of either sort of sheet were rounded in every such way.
 pub fn run(seed: u64, sheets: usize) -> bool {
     println!("Comparing trees found by the library and the peer on {sheets} sheets, seed {seed}.");
     let Some(counts) = compare_all(seed, sheets) else {
@@ -31,28 +35,32 @@ pub fn run(seed: u64, sheets: usize) -> bool {
     counts.outcomes.print();
     counts.features.print();
     counts.rounded.print();
+    println!("  tapped twins of plain sheets: {}", counts.twins);
     timing::time_all();
     let outcomes = counts.outcomes.all_met();
     let rounded = counts.rounded.all_met();
-    counts.features.all_met() && outcomes && rounded
+    let twins = all_occurred("twins", &[("sheets", counts.twins)]);
+    counts.features.all_met() && outcomes && rounded && twins
 }
 
 struct Counts {
     outcomes: Outcomes,
     features: Features,
     /// Of the sheets that have a tree.
-    rounded: Rounded,
+    rounded: BySort<Rounded>,
+    twins: usize,
 }
 
 /// Stops at the first difference and prints it.
 fn compare_all(seed: u64, sheets: usize) -> Option<Counts> {
     let mut dice = Dice::new(seed);
     let mut search = Search::default();
-    let numbers = &[0, 1, 2, 3, 4, 5, 6, 7, 8, 9, 10, 11];
+    let numbers = &[0, 1, 2, 3, 4, 5, 6, 7, 8, 9, 10, 11, 17, 18, 19];
     let mut counts = Counts {
         outcomes: Outcomes::new("calls", numbers),
         features: Features::default(),
-        rounded: Rounded::default(),
+        rounded: BySort::default(),
+        twins: 0,
     };
     for at in 1..=sheets {
         let case = takes::case(&mut dice);
@@ -124,11 +132,29 @@ fn compare(
     }
     let lengths = (longer(dice, bytes), longer(dice, cells));
     compare_call(dice, &case.text, lengths, &expected, &mut counts.outcomes)?;
+    if dice.one_in(TWIN_EVERY) {
+        compare_twin(dice, &case.text, lengths, &expected, counts)?;
+    }
     for (lengths, number) in short_lengths(dice, bytes, cells) {
         let expected = Expected::refusal(number, 0);
         compare_call(dice, &case.text, lengths, &expected, &mut counts.outcomes)?;
     }
     Ok(())
+}
+
+/// The tapped twin of a plain sheet has the same tree, or none too.
+fn compare_twin(
+    dice: &mut Dice,
+    text: &[u8],
+    lengths: (usize, usize),
+    expected: &Expected,
+    counts: &mut Counts,
+) -> Result<(), Difference> {
+    let Some((twin, _)) = twins::twin(text, (0, 0)) else {
+        return Ok(());
+    };
+    counts.twins += 1;
+    compare_call(dice, &twin, lengths, expected, &mut counts.outcomes)
 }
 
 /// The peer's tree and its price, if there is one.
@@ -161,30 +187,6 @@ fn last_least(search: &mut Search, sheet: &mut Sheet, total: u64) -> Result<Vec<
         *rule = sheet.rules.len() as u8 - 1 - *rule;
     }
     Ok(tree)
-}
-
-/// The required length, or a longer one.
-fn longer(dice: &mut Dice, required: usize) -> usize {
-    required + dice.pick(&[0, 0, 1, 2, 40])
-}
-
-/// Lengths of tree and work slices of which one or both are short, and the
-/// refusal: most often one short, and for a few sheets all that can be.
-fn short_lengths(dice: &mut Dice, bytes: usize, cells: usize) -> Vec<((usize, usize), u8)> {
-    let (tree, work) = (longer(dice, bytes), longer(dice, cells));
-    let less_tree = dice.between_edged(0, bytes - 1);
-    let less_work = dice.between_edged(0, cells - 1);
-    let mut short = vec![
-        ((tree, cells - 1), WORK_SHORT),
-        ((bytes - 1, work), TREE_SHORT),
-        ((bytes - 1, cells - 1), WORK_SHORT),
-        ((less_tree, less_work), WORK_SHORT),
-        ((less_tree, work), TREE_SHORT),
-        ((0, 0), WORK_SHORT),
-    ];
-    dice.shuffle(&mut short);
-    short.truncate(dice.pick(&[0, 0, 1, 1, 2, 6]));
-    short
 }
 
 /// Finds in dirty slices of some lengths.
@@ -224,22 +226,6 @@ fn same_slices<T: PartialEq + std::fmt::Debug>(
         Some(at) => {
             let place = at as isize - AROUND as isize;
             same(&format!("{asked} {place}"), &given[at], &expected[at])
-        }
-    }
-}
-
-/// Cells that stand in a slice before the call; now and then all 0 or all ones.
-fn dirty_cells(dice: &mut Dice, length: usize) -> Vec<u64> {
-    let fill = |cell: u64| vec![cell; length];
-    match dice.below(8) {
-        0 => fill(0),
-        1 => fill(u64::MAX),
-        _ => {
-            let bytes = dirt(dice, 16);
-            let number = |at: usize| u64::from_le_bytes(bytes[at..at + 8].try_into().unwrap());
-            let (first, step) = (number(0), number(8) | 1);
-            let cells = (0..length as u64).map(|at| first.wrapping_add(step.wrapping_mul(at)));
-            cells.collect()
         }
     }
 }

@@ -49,6 +49,22 @@ pub fn dirt(dice: &mut Dice, length: usize) -> Vec<u8> {
     (0..length).map(value).collect()
 }
 
+/// Cells that stand in a slice before the call; now and then all 0 or all ones.
+pub fn dirty_cells(dice: &mut Dice, length: usize) -> Vec<u64> {
+    let fill = |cell: u64| vec![cell; length];
+    match dice.below(8) {
+        0 => fill(0),
+        1 => fill(u64::MAX),
+        _ => {
+            let bytes = dirt(dice, 16);
+            let number = |at: usize| u64::from_le_bytes(bytes[at..at + 8].try_into().unwrap());
+            let (first, step) = (number(0), number(8) | 1);
+            let cells = (0..length as u64).map(|at| first.wrapping_add(step.wrapping_mul(at)));
+            cells.collect()
+        }
+    }
+}
+
 /// How often each number was given: 0 for an accepted call, or a refusal's.
 pub struct Outcomes {
     name: &'static str,

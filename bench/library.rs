@@ -6,6 +6,7 @@ extern "C" {
     fn rhythm_work_cells(text: *const u8, len: usize) -> u64;
     fn rhythm_tree_bytes(text: *const u8, len: usize) -> u64;
     fn rhythm_onset_unit(text: *const u8, len: usize, i: usize) -> u32;
+    fn rhythm_bar_line(text: *const u8, len: usize, i: usize) -> u32;
     fn rhythm_price(
         text: *const u8,
         text_len: usize,
@@ -54,6 +55,11 @@ pub fn tree_bytes(text: &[u8]) -> u64 {
 /// The unit of an onset, from 0; 0 past the last and when refused.
 pub fn onset_unit(text: &[u8], i: usize) -> u32 {
     unsafe { rhythm_onset_unit(text.as_ptr(), text.len(), i) }
+}
+
+/// The moment of a bar line, from 0; 0 past the last and when refused.
+pub fn bar_line(text: &[u8], i: usize) -> u32 {
+    unsafe { rhythm_bar_line(text.as_ptr(), text.len(), i) }
 }
 
 /// Number, line, nodes, R, D and total.

@@ -3,7 +3,8 @@
 //! that are hardly trees at all, and lists beside refused texts; and two fixed
 //! trees for timing.
 
-use crate::moments::{self, any_time_of, first_times, FIXED_DURATION};
+use crate::bar_lines::{self, BarLines};
+use crate::moments::{any_time_of, first_times, FIXED_DURATION};
 use crate::peer::{self, Rule, Sheet, BAR_UNITS};
 use crate::sheets::{self, Dice, Outcome, REST};
 use crate::trees::NO_TREE;
@@ -28,9 +29,9 @@ pub fn sheet_text(dice: &mut Dice) -> Vec<u8> {
     let bars = dice.between(1, most_bars);
     let most_onsets = if dice.one_in(8) { 20 } else { 4 };
     let onsets = dice.between(1, (bars * most_onsets).min(sheets::MAX_ONSETS));
-    let (lines, duration) = (grammar(dice), duration(dice));
+    let (lines, bar_lines) = (grammar(dice), bar_lines(dice, bars));
     let units = units(dice, bars, onsets);
-    played(dice, lines, bars, duration, &units)
+    played(dice, lines, &bar_lines, &units)
 }
 
 /// The peer's reading of a sheet made here.
@@ -96,38 +97,37 @@ fn plain_grammar(dice: &mut Dice, nonterminals: usize, arities: &[usize]) -> Vec
 pub fn played(
     dice: &mut Dice,
     lines: Vec<Vec<u8>>,
-    bars: usize,
-    duration: usize,
+    bar_lines: &BarLines,
     units: &[usize],
 ) -> Vec<u8> {
-    let times = units.iter().map(|&unit| any_time_of(dice, unit, duration));
+    let times = units.iter().map(|&unit| any_time_of(dice, unit, bar_lines));
     let mut times: Vec<usize> = times.collect();
     // Of onsets at one unit a later one may have an earlier time.
     times.sort_unstable();
-    played_at(dice, lines, bars, duration, &times)
+    played_at(dice, lines, bar_lines, &times)
 }
 
 /// The text of a grammar and onsets at times, which are in order.
 pub fn played_at(
     dice: &mut Dice,
     mut lines: Vec<Vec<u8>>,
-    bars: usize,
-    duration: usize,
+    bar_lines: &BarLines,
     times: &[usize],
 ) -> Vec<u8> {
-    lines.push(sheets::playing_head(bars, duration));
+    lines.extend(bar_lines.sheet_lines());
     for &time in times {
         lines.push(sheets::onset(dice, time));
     }
     sheets::text_of(&lines)
 }
 
-/// Now and then such that a microsecond is a unit or a part of one.
-pub fn duration(dice: &mut Dice) -> usize {
-    match dice.below(4) {
-        0 => BAR_UNITS as usize,
-        1 => 100 * BAR_UNITS as usize,
-        _ => moments::duration(dice),
+/// Of either sort, now and then such that a microsecond is a unit or a part of one.
+pub fn bar_lines(dice: &mut Dice, bars: usize) -> BarLines {
+    match dice.below(6) {
+        0 => BarLines::even(bars, BAR_UNITS as usize),
+        1 => BarLines::even(bars, 100 * BAR_UNITS as usize),
+        2 => bar_lines::any_tapped(dice, bars, BAR_UNITS as usize),
+        _ => bar_lines::any(dice, bars),
     }
 }
 
@@ -654,9 +654,9 @@ fn without_tree(dice: &mut Dice, sheet: &Sheet) -> Made {
 fn deepest(dice: &mut Dice) -> Case {
     let bars = dice.between_edged(1, 64);
     let lines = plain_grammar(dice, 1, &[2, 3, 5, 7, 8]);
-    let duration = duration(dice);
+    let bar_lines = bar_lines(dice, bars);
     let units = units_by_bar(dice, bars, eight_anywhere);
-    let text = played(dice, lines, bars, duration, &units);
+    let text = played(dice, lines, &bar_lines, &units);
     let list = grown_to(dice, &accepted(&text), None, 1, NEVER);
     Case {
         text,
@@ -719,8 +719,9 @@ fn fixed(
         let mut dice = Dice::new(seed);
         let lines = plain_grammar(&mut dice, 2, arities);
         let units = units_by_bar(&mut dice, bars, units_of_bar);
-        let times = first_times(&units, FIXED_DURATION);
-        let text = played_at(&mut dice, lines, bars, FIXED_DURATION, &times);
+        let bar_lines = BarLines::even(bars, FIXED_DURATION);
+        let times = first_times(&units, &bar_lines);
+        let text = played_at(&mut dice, lines, &bar_lines, &times);
         let list = grown_to(&mut dice, &accepted(&text), None, shortest, NEVER)?;
         Some((text, list))
     };

@@ -3,6 +3,13 @@
 //!
 //! `rustc --test bench/peer.rs` builds the tests at the end of this file.
 
+/// Named by its path, so that this file also builds alone.
+#[path = "bars.rs"]
+pub mod bars;
+
+use bars::{first_past_end, Bar};
+use std::ops::RangeInclusive;
+
 /// The refusal's number and its line (0 for refusal 1).
 pub type Refusal = (u8, u16);
 
@@ -11,6 +18,11 @@ pub const BAR_UNITS: u32 = 20_160;
 
 const MAX_TEXT: usize = 16_384;
 const MAX_RULES: usize = 64;
+const MAX_BARS: u8 = 64;
+/// Of a bar in microseconds, plain or tapped.
+const DURATIONS: RangeInclusive<u32> = 1_000..=60_000_000;
+/// What stands for the duration of a tapped sheet.
+const TAPPED: u32 = 0;
 const MAX_ONSETS: usize = 512;
 const MAX_BAR_ONSETS: u8 = 32;
 const MAX_ARITY: usize = 8;
@@ -27,11 +39,15 @@ const RANGE: u8 = 5;
 const FALLING: u8 = 6;
 const PAST_END: u8 = 7;
 const TOO_MANY: u8 = 8;
+const TAPS: u8 = 17;
+const STEP: u8 = 18;
+const BEFORE_FIRST_TAP: u8 = 19;
 
 const GRAMMAR_HEAD: u8 = 0x47;
 const DIVISION: u8 = 0x44;
 pub const LEAF: u8 = 0x4C;
 const PLAYING_HEAD: u8 = 0x45;
+const TAP: u8 = 0x42;
 const ONSET: u8 = 0x4E;
 
 /// The comparison asks for only some of what a sheet says.
@@ -60,13 +76,13 @@ pub struct Sheet {
     pub multiplier: u16,
     pub rules: Vec<Rule>,
     pub bars: u8,
-    /// One bar's duration in microseconds.
-    pub duration: u32,
+    /// The moments of bar lines 0 to B in microseconds.
+    pub bar_lines: Vec<u32>,
     /// Unit, counted from the first bar, and pitch.
     pub onsets: Vec<(u32, u8)>,
 }
 
-/// Reads a sheet, or gives its refusal, 1 to 8.
+/// Reads a sheet, or gives its refusal: 1 to 8, or 17 to 19.
 pub fn read(text: &[u8]) -> Result<Sheet, Refusal> {
     if text.len() > MAX_TEXT {
         return Err((TOO_LONG, 0));
@@ -293,8 +309,17 @@ fn read_lines(lines: &mut Lines) -> Result<Sheet, Refusal> {
             _ => return line.refuse(KIND),
         }
     };
-    (sheet.bars, sheet.duration) = playing_head(&playing)?;
-    onsets(lines, &mut sheet)?;
+    let (bars, duration) = playing_head(&playing)?;
+    sheet.bars = bars;
+    let tapped = duration == TAPPED;
+    if tapped {
+        taps(lines, &mut sheet)?;
+    } else {
+        // 64 bars of 60,000,000 microseconds still fit 32 bits.
+        let even = (0..=u32::from(bars)).map(|line| line * duration);
+        sheet.bar_lines.extend(even);
+    }
+    onsets(lines, &mut sheet, tapped)?;
     Ok(sheet)
 }
 
@@ -310,7 +335,7 @@ fn grammar_head(line: &Line) -> Result<Sheet, Refusal> {
         multiplier: line.two(3),
         rules: Vec::with_capacity(MAX_RULES),
         bars: 0,
-        duration: 0,
+        bar_lines: Vec::with_capacity(usize::from(MAX_BARS) + 1),
         onsets: Vec::with_capacity(MAX_ONSETS),
     })
 }
@@ -355,36 +380,56 @@ fn leaf(line: &Line, nonterminals: u8) -> Result<Rule, Refusal> {
     })
 }
 
-/// The bars and one bar's duration.
+/// The bars and one bar's duration, or `TAPPED`.
 fn playing_head(line: &Line) -> Result<(u8, u32), Refusal> {
     line.refuse_if(line.count != 6, COUNT)?;
     let (bars, duration) = (line.one(1), line.four(2));
-    let in_range = (1..=64).contains(&bars) && (1_000..=60_000_000).contains(&duration);
+    let is_duration = duration == TAPPED || DURATIONS.contains(&duration);
+    let in_range = (1..=MAX_BARS).contains(&bars) && is_duration;
     line.refuse_if(!in_range, RANGE)?;
     Ok((bars, duration))
 }
 
-fn onsets(lines: &mut Lines, sheet: &mut Sheet) -> Result<(), Refusal> {
-    let end = first_past_end(sheet.bars, sheet.duration);
-    let scale = scale(sheet.duration);
-    let mut before = 0;
-    let mut bar_end = 0;
+fn taps(lines: &mut Lines, sheet: &mut Sheet) -> Result<(), Refusal> {
+    for _ in 0..=sheet.bars {
+        let line = lines.next()?.ok_or((TAPS, lines.read + 1))?;
+        line.refuse_if(line.kind != TAP, TAPS)?;
+        line.refuse_if(line.count != 5, COUNT)?;
+        let tap = line.four(1);
+        if let Some(&before) = sheet.bar_lines.last() {
+            // A falling tap may come to a fitting step in 32 bits.
+            let step = tap.checked_sub(before);
+            let fits = step.is_some_and(|step| DURATIONS.contains(&step));
+            line.refuse_if(!fits, STEP)?;
+        }
+        sheet.bar_lines.push(tap);
+    }
+    Ok(())
+}
+
+fn onsets(lines: &mut Lines, sheet: &mut Sheet, tapped: bool) -> Result<(), Refusal> {
+    let mut bar = Bar::at(0, &sheet.bar_lines);
+    let end = first_past_end(&sheet.bar_lines);
+    let mut before = sheet.bar_lines[0];
     let mut in_bar = 0;
     let mut line = lines.expect()?;
     loop {
-        let (time, pitch) = onset(&line)?;
-        line.refuse_if(time < before, FALLING)?;
+        let (time, pitch) = onset(&line, tapped)?;
+        if time < before {
+            // Before the first onset there is only the first bar line.
+            let first = sheet.onsets.is_empty();
+            return line.refuse(if first { BEFORE_FIRST_TAP } else { FALLING });
+        }
         line.refuse_if(time >= end, PAST_END)?;
-        let unit = unit(time, scale);
-        if unit >= bar_end {
-            bar_end = (unit / BAR_UNITS + 1) * BAR_UNITS;
+        if time >= bar.until {
+            bar.go_to(time, &sheet.bar_lines);
             in_bar = 0;
         }
         let full = sheet.onsets.len() == MAX_ONSETS || in_bar == MAX_BAR_ONSETS;
         line.refuse_if(full, TOO_MANY)?;
         in_bar += 1;
         before = time;
-        sheet.onsets.push((unit, pitch));
+        sheet.onsets.push((bar.unit(time), pitch));
         match lines.next()? {
             Some(next) => line = next,
             None => return Ok(()),
@@ -393,39 +438,16 @@ fn onsets(lines: &mut Lines, sheet: &mut Sheet) -> Result<(), Refusal> {
 }
 
 /// An onset's time in microseconds and its pitch.
-fn onset(line: &Line) -> Result<(u32, u8), Refusal> {
-    line.refuse_if(line.kind != ONSET, KIND)?;
+fn onset(line: &Line, tapped: bool) -> Result<(u32, u8), Refusal> {
+    if line.kind != ONSET {
+        let more_taps = tapped && line.kind == TAP;
+        return line.refuse(if more_taps { TAPS } else { KIND });
+    }
     line.refuse_if(line.count != 7, COUNT)?;
     let (time, pitch, velocity) = (line.four(1), line.one(5), line.one(6));
     let in_range = pitch <= 127 && (1..=127).contains(&velocity);
     line.refuse_if(!in_range, RANGE)?;
     Ok((time, pitch))
-}
-
-/// The first time past the end: a time half a unit before the end, or less, is
-/// rounded up to it. So one comparison tells a time at or past B × duration and a
-/// unit at or past B × 20,160.
-pub fn first_past_end(bars: u8, duration: u32) -> u32 {
-    // 64 bars of 60,000,000 microseconds still fit 32 bits.
-    u32::from(bars) * duration - duration / (2 * BAR_UNITS)
-}
-
-/// Units in 2^59 microseconds, rounded up. Made once a sheet, so that an onset takes a
-/// product and no division. The shortest bar is 1,000 microseconds, so it fits 64 bits.
-pub fn scale(duration: u32) -> u64 {
-    (u128::from(BAR_UNITS) << 59).div_ceil(duration.into()) as u64
-}
-
-/// The unit nearest to a time before the end, an exact half upwards: at most 64
-/// bars, so it fits 32 bits.
-///
-/// Rounding up the scale adds less than 2^32 / 2^59 units. A share and a half unit
-/// make a multiple of 1 / (2 × duration) units, and 2 × duration is below 2^27. So
-/// what is added does not reach the next whole unit.
-pub fn unit(time: u32, scale: u64) -> u32 {
-    // With 2^5 beside the scale's 2^59 a unit is 2^64 of the product.
-    let share = u128::from(u64::from(time) << 5) * u128::from(scale);
-    ((share + (1 << 63)) >> 64) as u32
 }
 
 #[cfg(test)]
@@ -506,7 +528,7 @@ pub mod tests {
             (sheet.nonterminals, sheet.start, sheet.multiplier),
             (2, 0, 10)
         );
-        assert_eq!((sheet.bars, sheet.duration), (1, 2_000_000));
+        assert_eq!((sheet.bars, &sheet.bar_lines[..]), (1, &[0, 2_000_000][..]));
         assert_eq!(sheet.onsets, [(0, 60), (11_088, 62)]);
         let leaf = |head, weight, n| Rule::Leaf { head, weight, n };
         let parts = [1, 1, 0, 0, 0, 0, 0, 0];

@@ -3,6 +3,7 @@
 
 use crate::harness::{self, best_by_turns, dirt, same, Difference, Outcomes};
 use crate::lists::{self, Case};
+use crate::playing::Sorts;
 use crate::sheets::Dice;
 use crate::trees::{self, Price};
 use crate::{library, peer};
@@ -13,7 +14,8 @@ const AROUND: usize = 32;
 /// A long list is printed only up to so many bytes.
 const LIST_SHOWN: usize = 500;
 
-/// Gives whether no difference was found and every outcome occurred.
+/// Gives whether no difference was found, and every outcome and either sort of sheet
+/// occurred.
 pub fn run(seed: u64, lists: usize) -> bool {
     println!(
         "Comparing prices and scores of the library and the peer on {lists} lists, seed {seed}."
@@ -24,11 +26,12 @@ pub fn run(seed: u64, lists: usize) -> bool {
     println!("No difference. By outcome:");
     counts.priced.print();
     counts.written.print();
+    counts.sorts.print();
     println!("  trees with a rest: {}", counts.with_rest);
     println!("  largest tree: {} nodes", counts.most_nodes);
     time_all();
     let (priced, written) = (counts.priced.all_met(), counts.written.all_met());
-    priced && written
+    counts.sorts.all_met() && priced && written
 }
 
 // The peer's entries, with what the library's give. Kept out of line, as the
@@ -76,16 +79,22 @@ fn has_rest(score: &[u8]) -> bool {
 struct Counts {
     priced: Outcomes,
     written: Outcomes,
+    /// Of the sheets with a tree.
+    sorts: Sorts,
     with_rest: usize,
     most_nodes: u64,
 }
+
+const PRICED: [u8; 13] = [0, 1, 2, 3, 4, 5, 6, 7, 8, 12, 17, 18, 19];
+const WRITTEN: [u8; 14] = [0, 1, 2, 3, 4, 5, 6, 7, 8, 12, 13, 17, 18, 19];
 
 /// Stops at the first difference and prints it.
 fn compare_all(seed: u64, lists: usize) -> Option<Counts> {
     let mut dice = Dice::new(seed);
     let mut counts = Counts {
-        priced: Outcomes::new("lists priced", &[0, 1, 2, 3, 4, 5, 6, 7, 8, 12]),
-        written: Outcomes::new("scores written", &[0, 1, 2, 3, 4, 5, 6, 7, 8, 12, 13]),
+        priced: Outcomes::new("lists priced", &PRICED),
+        written: Outcomes::new("scores written", &WRITTEN),
+        sorts: Sorts::default(),
         with_rest: 0,
         most_nodes: 0,
     };
@@ -117,6 +126,9 @@ fn compare(dice: &mut Dice, case: &Case, counts: &mut Counts) -> Result<(), Diff
     same("rhythm_price", library::price(text, list), price)?;
     counts.priced.add(price[0])?;
     counts.most_nodes = counts.most_nodes.max(price[2]);
+    if price[0] == 0 {
+        counts.sorts.add(text);
+    }
     let score = peer_score(text, list);
     counts.with_rest += usize::from(score.as_deref().is_some_and(has_rest));
     for length in slice_lengths(dice, score.map(|score| score.len())) {

@@ -1,10 +1,13 @@
-//! Compares the library's reading of a sheet with the peer's on generated
-//! texts, then times both on one fixed sheet.
+//! Compares the library's reading of a sheet with the peer's on generated texts and on
+//! the tapped twins of plain ones, then times both on two fixed sheets.
 
-use crate::harness::{self, best_by_turns, same, Difference, Outcomes};
+use crate::answers::Answers;
+use crate::harness::{self, all_occurred, best_by_turns, same, Difference, Outcomes};
+use crate::playing::BySort;
 use crate::rounded::{Limits, Rounded};
-use crate::sheets::{self, Case, Dice};
-use crate::{library, peer};
+use crate::sheets::{self, lines_of, Case, Dice, Outcome};
+use crate::tapped::Tapped;
+use crate::{fixed, library, peer, twins};
 use std::hint::black_box;
 
 /// Each onset's unit is a reading of its own, so all onsets are asked for on
@@ -12,21 +15,29 @@ use std::hint::black_box;
 const ALL_ONSETS_EVERY: usize = 8;
 
 /// Gives whether no difference was found, and every outcome and everything that is
-/// counted of rounding occurred.
+/// counted of rounding and of taps occurred.
 pub fn run(seed: u64, texts: usize) -> bool {
-    println!("Comparing readings of the library and the peer on {texts} texts, seed {seed}.");
+    println!("Comparing fixed of the library and the peer on {texts} texts, seed {seed}.");
     let Some(counts) = compare_all(seed, texts) else {
         return false;
     };
     println!("No difference. By outcome:");
     counts.outcomes.print();
     println!("  onset units compared: {}", counts.units);
+    println!("  bar lines compared: {}", counts.bar_lines);
+    println!("  tapped twins of plain texts: {:?}", counts.twins());
     counts.rounded.print();
     counts.limits.print();
+    counts.tapped.print();
     time_all();
-    let outcomes = counts.outcomes.all_met();
-    let rounded = counts.rounded.all_met();
-    counts.limits.all_met() && outcomes && rounded
+    let met = [
+        counts.outcomes.all_met(),
+        counts.rounded.all_met(),
+        counts.limits.all_met(),
+        counts.tapped.all_met(),
+        all_occurred("twins", &counts.twins()),
+    ];
+    !met.contains(&false)
 }
 
 // Comparing.
@@ -34,18 +45,36 @@ pub fn run(seed: u64, texts: usize) -> bool {
 struct Counts {
     outcomes: Outcomes,
     units: usize,
-    rounded: Rounded,
-    limits: Limits,
+    bar_lines: usize,
+    /// Accepted and refused.
+    twins: [usize; 2],
+    rounded: BySort<Rounded>,
+    limits: BySort<Limits>,
+    tapped: Tapped,
+}
+
+impl Counts {
+    fn add_asked(&mut self, (units, bar_lines): (usize, usize)) {
+        self.units += units;
+        self.bar_lines += bar_lines;
+    }
+
+    fn twins(&self) -> [(&'static str, usize); 2] {
+        [("accepted", self.twins[0]), ("refused", self.twins[1])]
+    }
 }
 
 /// Stops at the first difference and prints it.
 fn compare_all(seed: u64, texts: usize) -> Option<Counts> {
     let mut dice = Dice::new(seed);
     let mut counts = Counts {
-        outcomes: Outcomes::new("texts read", &[0, 1, 2, 3, 4, 5, 6, 7, 8]),
+        outcomes: Outcomes::new("texts read", &[0, 1, 2, 3, 4, 5, 6, 7, 8, 17, 18, 19]),
         units: 0,
-        rounded: Rounded::default(),
-        limits: Limits::default(),
+        bar_lines: 0,
+        twins: [0; 2],
+        rounded: BySort::default(),
+        limits: BySort::default(),
+        tapped: Tapped::default(),
     };
     for at in 1..=texts {
         let case = sheets::case(&mut dice);
@@ -60,46 +89,37 @@ fn compare_all(seed: u64, texts: usize) -> Option<Counts> {
 
 fn compare(case: &Case, counts: &mut Counts) -> Result<(), Difference> {
     let text = &case.text;
-    let read = peer::read(text);
-    let outcome = *read.as_ref().err().unwrap_or(&(0, 0));
+    let answers = Answers::of(text);
+    let outcome = answers.outcome;
     if let Some(aim) = case.aim {
         same("the peer's refusal and line", outcome, aim)?;
     }
-    let check = unpacked(library::check(text));
-    same("rhythm_check", check, (outcome.0.into(), outcome.1))?;
-    let (cells, bytes) = match &read {
-        Ok(sheet) => (peer::work_cells(sheet), peer::tree_bytes(sheet)),
-        Err(_) => (0, 0),
-    };
-    same("rhythm_work_cells", library::work_cells(text), cells)?;
-    same("rhythm_tree_bytes", library::tree_bytes(text), bytes)?;
-    if read.is_ok() {
+    let all = counts.outcomes.accepted() % ALL_ONSETS_EVERY == 0;
+    counts.add_asked(answers.compare(text, all)?);
+    if let Some((twin, aim)) = twins::twin(text, outcome) {
+        let difference = |Difference(text)| Difference(format!("The tapped twin: {text}"));
+        compare_twin(answers, &twin, aim, counts).map_err(difference)?;
+    }
+    if outcome == (0, 0) {
         counts.rounded.add(text);
     }
     counts.limits.add(text, outcome);
-    let onsets = read.map_or(Vec::new(), |sheet| sheet.onsets);
-    counts.units += compare_units(text, &onsets, counts.outcomes.accepted())?;
+    counts.tapped.add(text, outcome);
     counts.outcomes.add(outcome.0.into())
 }
 
-/// A check's refusal number and line.
-fn unpacked(check: u32) -> (u32, u16) {
-    (check / 65_536, (check % 65_536) as u16)
-}
-
-/// Some onsets or all, and places past the last; gives how many were asked for.
-fn compare_units(text: &[u8], onsets: &[(u32, u8)], accepted: usize) -> Result<usize, Difference> {
-    let count = onsets.len();
-    let mut asked = vec![0, count / 2, count.saturating_sub(1), count, usize::MAX];
-    if accepted % ALL_ONSETS_EVERY == 0 {
-        asked.extend(0..count);
-    }
-    for &i in &asked {
-        let unit = onsets.get(i).map_or(0, |onset| onset.0);
-        let given = library::onset_unit(text, i);
-        same(&format!("rhythm_onset_unit of {i}"), given, unit)?;
-    }
-    Ok(asked.len())
+/// Holds peer and library to the answers of the plain text.
+fn compare_twin(
+    mut expected: Answers,
+    twin: &[u8],
+    outcome: Outcome,
+    counts: &mut Counts,
+) -> Result<(), Difference> {
+    expected.outcome = outcome;
+    same("the peer", &Answers::of(twin), &expected)?;
+    counts.twins[usize::from(outcome != (0, 0))] += 1;
+    counts.add_asked(expected.compare(twin, false)?);
+    Ok(())
 }
 
 // Timing.
@@ -130,25 +150,35 @@ const TIMED: [(&str, [Entry; 2]); 2] = [
     ),
 ];
 
+/// A fixed sheet, and what its times are named by beside the entry.
+type Timed = (&'static str, fn() -> Vec<u8>);
+
+const SHEETS: [Timed; 2] = [("", fixed::plain), (", tapped sheet", fixed::tapped)];
+
 fn time_all() {
-    let text = sheets::timing_sheet();
-    let lines = text.iter().filter(|&&byte| byte == b'\n').count();
+    let texts = SHEETS.map(|(_, text)| text());
+    let lines = texts.each_ref().map(|text| lines_of(text).len());
     println!(
-        "Timing on one sheet of 512 onsets, {lines} lines, {} bytes: {}. \
-         The text is not changed between runs.",
-        text.len(),
+        "Timing on a plain sheet and on a tapped one, each of 512 onsets, {lines:?} lines, \
+         {:?} bytes: {}. The texts are not changed between runs.",
+        texts.each_ref().map(Vec::len),
         harness::how_timed()
     );
-    let best = best_by_turns(2 * TIMED.len(), |turn| {
-        let entry = TIMED[turn / 2].1[turn % 2];
-        black_box(entry(black_box(&text)));
+    let of_text = 2 * TIMED.len();
+    // All by turns, since a busy spell may outlast the turns of one sheet.
+    let best = best_by_turns(texts.len() * of_text, |turn| {
+        let entry = TIMED[turn % of_text / 2].1[turn % 2];
+        black_box(entry(black_box(&texts[turn / of_text])));
     });
-    for ((name, _), best) in TIMED.iter().zip(best.chunks(2)) {
-        println!(
-            "  {name}: library {:.2} ns a line, peer {:.2} ns a line, library / peer {:.2}",
-            best[0] / lines as f64,
-            best[1] / lines as f64,
-            best[0] / best[1]
-        );
+    for (((sort, _), lines), best) in SHEETS.iter().zip(lines).zip(best.chunks(of_text)) {
+        for ((name, _), best) in TIMED.iter().zip(best.chunks(2)) {
+            println!(
+                "  {name}{sort}: library {:.2} ns a line, peer {:.2} ns a line, \
+                 library / peer {:.2}",
+                best[0] / lines as f64,
+                best[1] / lines as f64,
+                best[0] / best[1]
+            );
+        }
     }
 }

@@ -1,15 +1,34 @@
 //! The tests of what is generated for the rounding of times to units, and of what is
 //! counted of it.
 
+use crate::fixed;
 use crate::peer;
+use crate::playing::{BySort, Counts};
 use crate::rounded::{Limits, Rounded};
 use crate::rounding_tests::{full_bars, text, TWO_SECONDS};
 use crate::sheets::{self, Dice};
+use crate::twins::twin;
 
 #[test]
-fn the_timing_sheet_is_accepted() {
-    let sheet = peer::read(&sheets::timing_sheet()).unwrap();
-    assert_eq!(sheet.onsets.len(), 512);
+fn the_timing_sheets_are_accepted() {
+    for text in [fixed::plain(), fixed::tapped()] {
+        let sheet = peer::read(&text).unwrap();
+        assert_eq!((sheet.onsets.len(), sheet.bars), (512, 24));
+    }
+}
+
+/// What a text and, as the other sort, its tapped twin show.
+fn shown<T: Counts + Default>(
+    text: &[u8],
+    mut add: impl FnMut(&mut BySort<T>, &[u8]),
+) -> [Vec<usize>; 2] {
+    let outcome = peer::read(text).err().unwrap_or((0, 0));
+    let (twin, _) = twin(text, outcome).expect("the text has a twin");
+    let mut counts = BySort::default();
+    add(&mut counts, text);
+    add(&mut counts, &twin);
+    let numbers = |counts: &T| counts.named().iter().map(|counted| counted.1).collect();
+    counts.sorts().map(|(_, counts)| numbers(counts))
 }
 
 /// All that is counted is met hundreds of times in 100,000 texts, and every text has the
@@ -17,7 +36,7 @@ fn the_timing_sheet_is_accepted() {
 #[test]
 fn generated_texts() {
     let mut dice = Dice::new(7);
-    let (mut rounded, mut limits) = (Rounded::default(), Limits::default());
+    let (mut rounded, mut limits) = (BySort::<Rounded>::default(), BySort::<Limits>::default());
     for _ in 0..10_000 {
         let case = sheets::case(&mut dice);
         let outcome = peer::read(&case.text).err().unwrap_or((0, 0));
@@ -30,8 +49,10 @@ fn generated_texts() {
     }
     rounded.print();
     limits.print();
-    let mut counted = rounded.named().into_iter().chain(limits.named());
-    assert!(counted.all(|(_, count)| count >= 30));
+    let rounded = rounded.sorts().map(|(_, rounded)| rounded.named()).concat();
+    let limits = limits.sorts().map(|(_, limits)| limits.named()).concat();
+    let mut counted = rounded.iter().chain(&limits);
+    assert!(counted.all(|(_, count)| *count >= 10));
 }
 
 /// By what is counted: a half, before a half, to a bar line, another E, short bars.
@@ -49,12 +70,10 @@ fn rounded_by_hand() {
         (1, 20_160, &[20_159], [0; 5]),
     ];
     for (bars, duration, times, expected) in cases {
-        let mut rounded = Rounded::default();
-        rounded.add(&text(bars, duration, times));
-        let counts = rounded.named().map(|(_, count)| count);
-        assert_eq!(counts, expected, "{bars} {duration} {times:?}");
+        let shown = shown(&text(bars, duration, times), BySort::<Rounded>::add);
+        assert_eq!(shown, [expected; 2], "{bars} {duration} {times:?}");
     }
-    assert!(!Rounded::default().all_met());
+    assert!(!BySort::<Rounded>::default().all_met());
 }
 
 /// By what is counted: the last time, 33 by times, 7 by the unit, at onset 513, at a full
@@ -77,11 +96,10 @@ fn limits_by_hand() {
         (16, bars_16(31_999_999), [0, 0, 1, 1, 1, 0]),
     ];
     for (bars, times, expected) in cases {
-        let text = text(bars, TWO_SECONDS, &times);
-        let mut limits = Limits::default();
-        limits.add(&text, peer::read(&text).err().unwrap_or((0, 0)));
-        let counts = limits.named().map(|(_, count)| count);
-        assert_eq!(counts, expected, "{bars} {times:?}");
+        let shown = shown(&text(bars, TWO_SECONDS, &times), |limits, text| {
+            BySort::<Limits>::add(limits, text, peer::read(text).err().unwrap_or((0, 0)));
+        });
+        assert_eq!(shown, [expected; 2], "{bars} {times:?}");
     }
-    assert!(!Limits::default().all_met());
+    assert!(!BySort::<Limits>::default().all_met());
 }

@@ -1,10 +1,11 @@
 //! Changes to a draft at bar lines and at the end of the piece, where an onset's bar by
 //! its unit is another than by its time. Each gives the outcome it must have.
 
+use crate::bar_lines::{self, BarLines};
 use crate::moments::{
-    any_of, first_time, long_duration, rounded_up, time_in, times, times_of_bar, BAR,
+    any_of, first_time, rounded_up, time_in, times, times_of_bar, BAR, ROUNDED_UP,
 };
-use crate::sheets::{draft_513, draft_at, number, Dice, Draft, Outcome, MAX_BAR_ONSETS};
+use crate::sheets::{draft_513, draft_at, draft_in, number, Dice, Draft, Outcome, MAX_BAR_ONSETS};
 
 const ACCEPTED: Outcome = (0, 0);
 
@@ -17,23 +18,23 @@ pub fn last_time(_: &mut Dice, draft: &mut Draft) -> Option<Outcome> {
 
 /// Puts some onset before the end, but at a unit that is past it.
 pub fn unit_at_end(dice: &mut Dice, draft: &mut Draft) -> Option<Outcome> {
-    let (duration, onsets) = (long_duration(dice), dice.between(1, 20));
-    let times = times(dice, draft.bars, duration, onsets);
-    *draft = draft_at(dice, draft.rules, (draft.bars, duration), &times);
+    let bar_lines = bar_lines::any_from(dice, draft.bar_lines.bars(), ROUNDED_UP);
+    let onsets = dice.between(1, 20);
+    *draft = draft_in(dice, draft.rules, bar_lines, onsets);
     let at = draft.any_onset(dice);
     Some(move_to_end(dice, draft, at))
 }
 
 /// The unit is judged before the number of onsets.
 pub fn onset_513_at_end(dice: &mut Dice, draft: &mut Draft) -> Option<Outcome> {
-    let duration = long_duration(dice);
-    *draft = draft_513(dice, duration);
+    *draft = draft_513(dice, ROUNDED_UP);
     let at = draft.lines.len() - 1;
     Some(move_to_end(dice, draft, at))
 }
 
 fn move_to_end(dice: &mut Dice, draft: &mut Draft, at: usize) -> Outcome {
-    let time = any_of(dice, rounded_up(draft.bars, draft.duration));
+    let lines = &draft.bar_lines;
+    let time = any_of(dice, rounded_up(lines.bars(), lines));
     draft.set_time(at, time);
     (7, number(at))
 }
@@ -46,7 +47,7 @@ type Around = [usize; 3];
 
 /// Onset 33 of the last bar by its time is past the end by its unit.
 pub fn full_bar_at_end(dice: &mut Dice, draft: &mut Draft) -> Option<Outcome> {
-    let (bars, up) = (draft.bars, dice.between(1, 3));
+    let (bars, up) = (draft.bar_lines.bars(), dice.between(1, 3));
     let first = put_around(dice, draft, (bars, bars), [MAX_BAR_ONSETS, up, 0]);
     Some((7, number(first + MAX_BAR_ONSETS)))
 }
@@ -76,7 +77,7 @@ pub fn onsets_rounded_out(dice: &mut Dice, draft: &mut Draft) -> Option<Outcome>
 
 /// Two bars or more, and a bar line with a bar on each side.
 fn inner_line(dice: &mut Dice, draft: &Draft) -> (usize, usize) {
-    let bars = draft.bars.max(2);
+    let bars = draft.bar_lines.bars().max(2);
     (bars, dice.between_edged(1, bars - 1))
 }
 
@@ -88,32 +89,32 @@ fn put_around(
     (bars, line): (usize, usize),
     around: Around,
 ) -> usize {
-    let duration = long_duration(dice);
-    let before = times_of_bar(line - 1, duration);
-    let both_bars = before.start..first_time((line + 1) * BAR, duration);
+    let lines = bar_lines::any_from(dice, bars, ROUNDED_UP);
+    let before = times_of_bar(line - 1, &lines);
+    let both_bars = before.start..first_time((line + 1).min(bars) * BAR, &lines);
     let few = dice.below(20);
-    let mut times = times(dice, bars, duration, few);
+    let mut times = times(dice, &lines, few);
     times.retain(|time| !both_bars.contains(time));
-    times.extend(times_around(dice, line, duration, around));
+    times.extend(times_around(dice, line, &lines, around));
     times.sort_unstable();
-    *draft = draft_at(dice, draft.rules, (bars, duration), &times);
+    *draft = draft_at(dice, draft.rules, lines, &times);
     let earlier = times.iter().filter(|&&time| time < before.start);
     draft.first_onset() + earlier.count()
 }
 
-fn times_around(dice: &mut Dice, line: usize, duration: usize, around: Around) -> Vec<usize> {
+fn times_around(dice: &mut Dice, line: usize, lines: &BarLines, around: Around) -> Vec<usize> {
     let [before, up, behind] = around;
     let mut times = Vec::new();
     for _ in 0..before {
         // By its time in this bar too: not rounded up to the bar line at its left.
-        let time = time_in(dice, line - 1, duration, None);
-        times.push(time.max((line - 1) * duration));
+        let time = time_in(dice, line - 1, lines, None);
+        times.push(time.max(lines.line(line - 1)));
     }
     for _ in 0..up {
-        times.push(any_of(dice, rounded_up(line, duration)));
+        times.push(any_of(dice, rounded_up(line, lines)));
     }
     for _ in 0..behind {
-        times.push(time_in(dice, line, duration, None).max(line * duration));
+        times.push(time_in(dice, line, lines, None).max(lines.line(line)));
     }
     times
 }

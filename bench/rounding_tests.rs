@@ -1,7 +1,9 @@
 //! The tests of the rounding of times to units: the conversion against its definition,
 //! the documents' cases and the limits.
 
-use crate::moments::{duration, first_time, long_duration, BAR};
+use crate::bar_lines::{any, BarLines};
+use crate::moments::{duration_from, first_time, BAR, ROUNDED_UP};
+use crate::peer::bars::{first_past_end, Bar};
 use crate::peer::{self, Refusal, Sheet, BAR_UNITS};
 use crate::sheets::Dice;
 use crate::trees;
@@ -18,8 +20,12 @@ fn nearest(time: u32, duration: u32) -> u32 {
     around.rev().min_by_key(distance).unwrap() as u32
 }
 
+/// By evenly spaced bar lines.
 fn check(time: u32, duration: u32) {
-    let unit = peer::unit(time, peer::scale(duration));
+    let lines: Vec<u32> = (0..=66).map(|line| line * duration).collect();
+    let mut bar = Bar::at(0, &lines);
+    bar.go_to(time, &lines);
+    let unit = bar.unit(time);
     assert_eq!(unit, nearest(time, duration), "{time} of {duration}");
 }
 
@@ -38,9 +44,9 @@ fn every_time_of_short_bars() {
 fn times_around_units_and_halves() {
     let mut dice = Dice::new(5);
     for _ in 0..200_000 {
-        let duration = long_duration(&mut dice);
+        let duration = duration_from(&mut dice, ROUNDED_UP);
         let unit = dice.between_edged(1, 64 * BAR);
-        let turn = first_time(unit, duration);
+        let turn = first_time(unit, &BarLines::even(64, duration));
         let (exact, duration) = (unit * duration / BAR, duration as u32);
         for time in [turn - 1, turn, turn + 1, exact, exact + 1] {
             check(time as u32, duration);
@@ -72,12 +78,13 @@ fn as_near_to_a_half_as_can_be() {
 fn first_time_past_the_end() {
     let mut dice = Dice::new(6);
     for _ in 0..100_000 {
-        let duration = duration(&mut dice) as u32;
-        let bars = dice.between_edged(1, 64) as u8;
-        let first = peer::first_past_end(bars, duration);
-        let end = u32::from(bars) * BAR_UNITS;
-        assert!(nearest(first, duration) >= end, "{bars} of {duration}");
-        assert!(nearest(first - 1, duration) < end, "{bars} of {duration}");
+        let bars = dice.between_edged(1, 64);
+        let lines = any(&mut dice, bars);
+        let moments: Vec<u32> = (0..=bars).map(|line| lines.line(line) as u32).collect();
+        let first = first_past_end(&moments) - moments[bars - 1];
+        let duration = lines.duration(bars - 1) as u32;
+        assert!(nearest(first, duration) >= BAR_UNITS, "{lines:?}");
+        assert!(nearest(first - 1, duration) < BAR_UNITS, "{lines:?}");
     }
 }
 

@@ -1,8 +1,9 @@
 //! Sheets to compare on: valid ones, ones damaged on purpose, and texts that
-//! are hardly sheets at all; and one fixed sheet for timing the reading.
+//! are hardly sheets at all.
 
-use crate::moments::{self, first_time, time_in, times_of_bar, BAR, FIXED_DURATION};
-use crate::rounding;
+use crate::bar_lines::{self, BarLines};
+use crate::moments::{self, first_time, time_in, times_of_bar, BAR};
+use crate::{rounding, tapping};
 
 /// A refusal's number and line; (0, 0) for an accepted sheet.
 pub type Outcome = (u8, u16);
@@ -14,13 +15,13 @@ pub struct Case {
     pub aim: Option<Outcome>,
 }
 
-const MAX_TEXT: usize = 16_384;
+pub const MAX_TEXT: usize = 16_384;
 pub const MAX_BAR_ONSETS: usize = 32;
 pub const MAX_ONSETS: usize = 512;
 pub const MAX_RULES: usize = 64;
 /// The n of a leaf that is a rest, the largest there is.
 pub const REST: usize = 4;
-const KINDS: [u8; 5] = [0x47, 0x44, 0x4C, 0x45, 0x4E];
+pub const KINDS: [u8; 6] = [0x47, 0x44, 0x4C, 0x45, 0x42, 0x4E];
 const DIGITS: &[u8; 16] = b"0123456789ABCDEF";
 
 /// Seeded throws: xorshift64*.
@@ -88,17 +89,21 @@ pub struct Draft {
     pub lines: Vec<Vec<u8>>,
     nonterminals: usize,
     pub rules: usize,
-    pub bars: usize,
-    pub duration: usize,
+    pub bar_lines: BarLines,
 }
 
 impl Draft {
-    fn playing_head(&self) -> usize {
+    pub fn playing_head(&self) -> usize {
         self.rules + 1
     }
 
     pub fn first_onset(&self) -> usize {
-        self.rules + 2
+        self.rules + 2 + self.bar_lines.taps()
+    }
+
+    /// Whether a tap stands at a place of a tapped draft.
+    fn is_tap(&self, at: usize) -> bool {
+        (self.playing_head() + 1..self.first_onset()).contains(&at)
     }
 
     fn any_line(&self, dice: &mut Dice) -> usize {
@@ -114,7 +119,7 @@ impl Draft {
     }
 
     fn time(&self, at: usize) -> usize {
-        time_of_line(&self.lines[at])
+        moment_of_line(&self.lines[at])
     }
 
     pub fn set_time(&mut self, at: usize, time: usize) {
@@ -123,7 +128,7 @@ impl Draft {
 
     /// The first time past the end, which may be so by its unit alone.
     pub fn end(&self) -> usize {
-        first_time(self.bars * BAR, self.duration)
+        first_time(self.bar_lines.bars() * BAR, &self.bar_lines)
     }
 
     fn text(&self) -> Vec<u8> {
@@ -151,8 +156,8 @@ pub fn lines_of(text: &[u8]) -> Vec<Vec<u8>> {
     text.lines().map(line).collect()
 }
 
-/// The time of an onset's line.
-pub fn time_of_line(line: &[u8]) -> usize {
+/// The moment of an onset's line or of a tap's.
+pub fn moment_of_line(line: &[u8]) -> usize {
     u32::from_be_bytes([line[1], line[2], line[3], line[4]]) as usize
 }
 
@@ -186,24 +191,24 @@ fn draft(dice: &mut Dice) -> Draft {
 }
 
 fn draft_of(dice: &mut Dice, rules: usize, bars: usize, onsets: usize) -> Draft {
-    let duration = moments::duration(dice);
-    let times = moments::times(dice, bars, duration, onsets);
-    draft_at(dice, rules, (bars, duration), &times)
+    let bar_lines = bar_lines::any(dice, bars);
+    draft_in(dice, rules, bar_lines, onsets)
+}
+
+/// A draft with so many onsets in bars.
+pub fn draft_in(dice: &mut Dice, rules: usize, bar_lines: BarLines, onsets: usize) -> Draft {
+    let times = moments::times(dice, &bar_lines, onsets);
+    draft_at(dice, rules, bar_lines, &times)
 }
 
 /// A draft with onsets at times, which are in order.
-pub fn draft_at(
-    dice: &mut Dice,
-    rules: usize,
-    (bars, duration): (usize, usize),
-    times: &[usize],
-) -> Draft {
+pub fn draft_at(dice: &mut Dice, rules: usize, bar_lines: BarLines, times: &[usize]) -> Draft {
     let nonterminals = dice.between_edged(1, 16);
     let mut lines = vec![grammar_head(dice, nonterminals)];
     for _ in 0..rules {
         lines.push(rule(dice, nonterminals));
     }
-    lines.push(playing_head(bars, duration));
+    lines.extend(bar_lines.sheet_lines());
     for &time in times {
         lines.push(onset(dice, time));
     }
@@ -211,8 +216,7 @@ pub fn draft_at(
         lines,
         nonterminals,
         rules,
-        bars,
-        duration,
+        bar_lines,
     }
 }
 
@@ -234,7 +238,7 @@ pub fn leaf(dice: &mut Dice, nonterminals: usize) -> Vec<u8> {
     leaf_up_to(dice, nonterminals, REST)
 }
 
-fn leaf_up_to(dice: &mut Dice, nonterminals: usize, most: usize) -> Vec<u8> {
+pub fn leaf_up_to(dice: &mut Dice, nonterminals: usize, most: usize) -> Vec<u8> {
     let (head, weight) = (dice.below(nonterminals) as u8, [dice.byte(), dice.byte()]);
     let n = dice.between(0, most) as u8;
     vec![0x4C, head, weight[0], weight[1], n]
@@ -263,7 +267,7 @@ pub fn onset(dice: &mut Dice, time: usize) -> Vec<u8> {
 
 // Damage to a draft: each gives the outcome it must have, if it settles one.
 
-type Damage = (&'static str, fn(&mut Dice, &mut Draft) -> Option<Outcome>);
+pub type Damage = (&'static str, fn(&mut Dice, &mut Draft) -> Option<Outcome>);
 
 const DAMAGES: [Damage; 41] = [
     ("unknown kind", unknown_kind),
@@ -312,15 +316,28 @@ const DAMAGES: [Damage; 41] = [
     ("onsets rounded out of a bar", rounding::onsets_rounded_out),
 ];
 
-fn unknown_kind(dice: &mut Dice, draft: &mut Draft) -> Option<Outcome> {
-    let at = draft.any_line(dice);
-    draft.lines[at][0] = loop {
+/// Of any draft, or of the taps of a tapped one.
+fn any_damage(dice: &mut Dice) -> Damage {
+    if dice.one_in(4) {
+        dice.pick(&tapping::DAMAGES)
+    } else {
+        dice.pick(&DAMAGES)
+    }
+}
+
+pub fn any_unknown_kind(dice: &mut Dice) -> u8 {
+    loop {
         let kind = dice.byte();
         if !KINDS.contains(&kind) {
             break kind;
         }
-    };
-    Some((3, number(at)))
+    }
+}
+
+fn unknown_kind(dice: &mut Dice, draft: &mut Draft) -> Option<Outcome> {
+    let (at, kind) = (draft.any_line(dice), any_unknown_kind(dice));
+    draft.lines[at][0] = kind;
+    Some((refused_by(draft, at, kind)?, number(at)))
 }
 
 fn kind_out_of_order(dice: &mut Dice, draft: &mut Draft) -> Option<Outcome> {
@@ -331,18 +348,29 @@ fn kind_out_of_order(dice: &mut Dice, draft: &mut Draft) -> Option<Outcome> {
         1 => dice.between(draft.playing_head() - 1, near - 1),
         _ => draft.any_line(dice),
     };
-    draft.lines[at][0] = dice.pick(out_of_order(draft, at));
-    Some((3, number(at)))
+    let kinds = KINDS.iter().copied();
+    let out_of_order = kinds.filter(|&kind| refused_by(draft, at, kind).is_some());
+    let kind = dice.pick(&out_of_order.collect::<Vec<u8>>());
+    draft.lines[at][0] = kind;
+    Some((refused_by(draft, at, kind)?, number(at)))
 }
 
-/// The kinds that are out of order at a place.
-fn out_of_order(draft: &Draft, at: usize) -> &'static [u8] {
-    match at {
-        0 => &[0x44, 0x4C, 0x45, 0x4E],
-        1 => &[0x47, 0x45, 0x4E],
-        _ if at <= draft.playing_head() => &[0x47, 0x4E],
-        _ => &[0x47, 0x44, 0x4C, 0x45],
-    }
+/// What a kind is refused by at a place, if it cannot stand there.
+fn refused_by(draft: &Draft, at: usize, kind: u8) -> Option<u8> {
+    let in_order: &[u8] = match at {
+        0 => &[0x47],
+        1 => &[0x44, 0x4C],
+        _ if at <= draft.playing_head() => &[0x44, 0x4C, 0x45],
+        _ if draft.is_tap(at) => &[0x42],
+        _ => &[0x4E],
+    };
+    let tap_behind = at > draft.playing_head() && kind == 0x42 && draft.bar_lines.is_tapped();
+    let number = if draft.is_tap(at) || tap_behind {
+        17
+    } else {
+        3
+    };
+    (!in_order.contains(&kind)).then_some(number)
 }
 
 fn any_other_kind(dice: &mut Dice, draft: &mut Draft) -> Option<Outcome> {
@@ -382,7 +410,8 @@ fn line_dropped(dice: &mut Dice, draft: &mut Draft) -> Option<Outcome> {
 fn head_doubled(dice: &mut Dice, draft: &mut Draft) -> Option<Outcome> {
     let at = any_head(dice, draft);
     draft.lines.insert(at, draft.lines[at].clone());
-    Some((3, number(at + 1)))
+    let kind = draft.lines[at][0];
+    Some((refused_by(draft, at + 1, kind)?, number(at + 1)))
 }
 
 fn line_doubled(dice: &mut Dice, draft: &mut Draft) -> Option<Outcome> {
@@ -394,14 +423,18 @@ fn line_doubled(dice: &mut Dice, draft: &mut Draft) -> Option<Outcome> {
 fn ends_before_an_onset(dice: &mut Dice, draft: &mut Draft) -> Option<Outcome> {
     let kept = dice.between_edged(1, draft.first_onset());
     draft.lines.truncate(kept);
-    Some((3, number(kept)))
+    let number_of_end = if draft.is_tap(kept) { 17 } else { 3 };
+    Some((number_of_end, number(kept)))
 }
 
-/// A line of any of the five kinds, each about as likely.
+/// A line of any of the kinds, each about as likely.
 fn line_of_any_kind(dice: &mut Dice, draft: &Draft) -> usize {
-    match dice.below(4) {
+    match dice.below(5) {
         0 => any_head(dice, draft),
         1 => draft.any_onset(dice),
+        2 if draft.bar_lines.is_tapped() => {
+            dice.between_edged(draft.playing_head() + 1, draft.first_onset() - 1)
+        }
         _ => draft.any_rule(dice),
     }
 }
@@ -423,7 +456,7 @@ fn long_line(dice: &mut Dice, draft: &mut Draft) -> Option<Outcome> {
     let at = line_of_any_kind(dice, draft);
     let kind = match dice.below(2) {
         0 => draft.lines[at][0],
-        _ => dice.pick(&[0x47, 0x44, 0x4C, 0x45, 0x4E, 0x58]),
+        _ => dice.pick(&[0x47, 0x44, 0x4C, 0x45, 0x42, 0x4E, 0x58]),
     };
     let arity = dice.between(0, 9);
     let count = dice.between_edged(9, 40);
@@ -434,13 +467,12 @@ fn long_line(dice: &mut Dice, draft: &mut Draft) -> Option<Outcome> {
         line.push(dice.byte());
     }
     draft.lines[at] = line;
-    let refused_by = if kind == 0x58 || out_of_order(draft, at).contains(&kind) {
-        3
-    } else if kind == 0x44 && !(2..=8).contains(&arity) {
+    let by_count = if kind == 0x44 && !(2..=8).contains(&arity) {
         5
     } else {
         4
     };
+    let refused_by = refused_by(draft, at, kind).unwrap_or(by_count);
     Some((refused_by, number(at)))
 }
 
@@ -543,12 +575,12 @@ fn bars_out_of_range(dice: &mut Dice, draft: &mut Draft) -> Option<Outcome> {
 
 fn duration_out_of_range(dice: &mut Dice, draft: &mut Draft) -> Option<Outcome> {
     let duration = if dice.one_in(2) {
-        dice.between_edged(0, 999)
+        dice.between_edged(1, 999)
     } else {
         dice.between_edged(60_000_001, u32::MAX as usize)
     };
     let at = draft.playing_head();
-    draft.lines[at] = playing_head(draft.bars, duration);
+    draft.lines[at] = playing_head(draft.bar_lines.bars(), duration);
     Some((5, number(at)))
 }
 
@@ -600,9 +632,14 @@ fn past_end(dice: &mut Dice, draft: &Draft) -> usize {
 }
 
 fn fewer_bars(dice: &mut Dice, draft: &mut Draft) -> Option<Outcome> {
-    let at = draft.playing_head();
-    draft.bars = dice.between(1, draft.bars);
-    draft.lines[at][1] = draft.bars as u8;
+    let (at, bars) = (draft.playing_head(), draft.bar_lines.bars());
+    let fewer = dice.between(1, bars);
+    draft.lines[at][1] = fewer as u8;
+    if draft.bar_lines.is_tapped() && fewer < bars {
+        // Behind the last tap of so many bars there is one more.
+        return Some((17, number(at + fewer + 2)));
+    }
+    draft.bar_lines = draft.bar_lines.front(fewer);
     let late = (draft.first_onset()..draft.lines.len()).find(|&at| draft.time(at) >= draft.end());
     Some(late.map_or((0, 0), |at| (7, number(at))))
 }
@@ -625,17 +662,17 @@ fn rule_65_out_of_range(dice: &mut Dice, draft: &mut Draft) -> Option<Outcome> {
 
 /// Puts a sheet of 513 onsets in the draft's place; gives the last's place.
 fn add_onset_513(dice: &mut Dice, draft: &mut Draft) -> usize {
-    let duration = moments::duration(dice);
-    *draft = draft_513(dice, duration);
+    *draft = draft_513(dice, moments::SHORTEST);
     draft.lines.len() - 1
 }
 
-/// A sheet of 513 onsets, and all else valid.
-pub fn draft_513(dice: &mut Dice, duration: usize) -> Draft {
+/// A sheet of 513 onsets, with no bar shorter than a duration, and all else valid.
+pub fn draft_513(dice: &mut Dice, shortest: usize) -> Draft {
     let rules = dice.between(1, MAX_RULES);
     let bars = dice.between_edged(16, 64);
-    let times = moments::times(dice, bars, duration, MAX_ONSETS);
-    let mut draft = draft_at(dice, rules, (bars, duration), &times);
+    let bar_lines = bar_lines::any_from(dice, bars, shortest);
+    let times = moments::times(dice, &bar_lines, MAX_ONSETS);
+    let mut draft = draft_at(dice, rules, bar_lines, &times);
     let time = dice.between_edged(times[MAX_ONSETS - 1], draft.end() - 1);
     draft.lines.push(onset(dice, time));
     draft
@@ -662,8 +699,8 @@ fn onset_513_falling(dice: &mut Dice, draft: &mut Draft) -> Option<Outcome> {
 }
 
 fn onset_33_of_a_bar(dice: &mut Dice, draft: &mut Draft) -> Option<Outcome> {
-    let bar = dice.below(draft.bars);
-    let times = times_of_bar(bar, draft.duration);
+    let bar = dice.below(draft.bar_lines.bars());
+    let times = times_of_bar(bar, &draft.bar_lines);
     let (left, right) = (times.start, times.end);
     let first = draft.first_onset();
     let place = |draft: &Draft, time| {
@@ -672,7 +709,7 @@ fn onset_33_of_a_bar(dice: &mut Dice, draft: &mut Draft) -> Option<Outcome> {
     };
     let wanted = MAX_BAR_ONSETS + dice.between(1, 3);
     while place(draft, right) - place(draft, left) < wanted {
-        let time = time_in(dice, bar, draft.duration, None);
+        let time = time_in(dice, bar, &draft.bar_lines, None);
         let line = onset(dice, time);
         draft.lines.insert(place(draft, time), line);
     }
@@ -802,7 +839,7 @@ const MAKES: [Make; 11] = [
 /// is refused for, a badly formed one, which must go first.
 fn badly_formed_later(dice: &mut Dice) -> (Vec<u8>, Option<Outcome>) {
     let mut draft = draft(dice);
-    let (_, damage) = dice.pick(&DAMAGES);
+    let (_, damage) = any_damage(dice);
     let refused = damage(dice, &mut draft).map_or(0, |(_, line)| usize::from(line));
     // A sheet that ends too early is refused past its last line.
     let kept = refused.min(draft.lines.len());
@@ -962,7 +999,7 @@ fn valid(dice: &mut Dice) -> Case {
 }
 
 fn damaged(dice: &mut Dice) -> Case {
-    let (made, damage) = dice.pick(&DAMAGES);
+    let (made, damage) = any_damage(dice);
     let mut draft = draft(dice);
     let aim = damage(dice, &mut draft);
     let mut text = draft.text();
@@ -986,25 +1023,4 @@ fn made(dice: &mut Dice) -> Case {
     let (made, make) = dice.pick(&MAKES);
     let (text, aim) = make(dice);
     Case { text, made, aim }
-}
-
-/// The sheet for timing, always the same: twelve rules, of which six divide
-/// by 2 or 3, and 512 onsets spread unevenly over 24 bars. No leaf is a rest, so
-/// that times can be set beside those from before there were any.
-pub fn timing_sheet() -> Vec<u8> {
-    const NONTERMINALS: usize = 4;
-    const BARS: usize = 24;
-    let mut dice = Dice::new(512);
-    let mut lines = vec![grammar_head(&mut dice, NONTERMINALS)];
-    for arity in [2, 3, 2, 3, 2, 3] {
-        lines.push(division(&mut dice, NONTERMINALS, arity));
-        lines.push(leaf_up_to(&mut dice, NONTERMINALS, REST - 1));
-    }
-    lines.push(playing_head(BARS, FIXED_DURATION));
-    let step = BARS * FIXED_DURATION / MAX_ONSETS;
-    for at in 0..MAX_ONSETS {
-        let time = at * step + dice.below(step);
-        lines.push(onset(&mut dice, time));
-    }
-    text_of(&lines)
 }

@@ -8,6 +8,7 @@ use crate::harness::{same, Difference, Outcomes};
 use crate::listing;
 use crate::multipliers::{changes, usual, with_multiplier};
 use crate::peer::{self, Refusal, Sheet};
+use crate::playing::Sorts;
 use crate::search::Search;
 use crate::sheets::Dice;
 use crate::slides::Slides;
@@ -25,13 +26,15 @@ pub fn run(seed: u64, texts: usize) -> bool {
     };
     println!("No difference, and every fact held. By outcome:");
     counts.outcomes.print();
+    counts.sorts.print();
     counts.slides.print();
-    let outcomes = counts.outcomes.all_met();
-    counts.slides.all_met() && outcomes
+    let (outcomes, sorts) = (counts.outcomes.all_met(), counts.sorts.all_met());
+    counts.slides.all_met() && outcomes && sorts
 }
 
 struct Counts {
     outcomes: Outcomes,
+    sorts: Sorts,
     slides: Slides,
 }
 
@@ -40,7 +43,8 @@ fn compare_all(seed: u64, texts: usize) -> Option<Counts> {
     let mut dice = Dice::new(seed);
     let mut search = Search::default();
     let mut counts = Counts {
-        outcomes: Outcomes::new("calls", &[0, 1, 2, 3, 4, 5, 6, 7, 8, 11]),
+        outcomes: Outcomes::new("calls", &[0, 1, 2, 3, 4, 5, 6, 7, 8, 11, 17, 18, 19]),
+        sorts: Sorts::default(),
         slides: Slides::default(),
     };
     for at in 1..=texts {
@@ -101,6 +105,7 @@ fn compare(
         })?;
         answers.push(Answer { multiplier, found });
     }
+    counts.sorts.add(text);
     counts.slides.add(&answers);
     if let Some(pairs) = &listed {
         counts.slides.add_listed(&answers, pairs, around.len());

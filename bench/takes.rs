@@ -2,8 +2,9 @@
 //! wrong, many of them with several least trees, a few large or long ones, small
 //! ones with a damaged text, and the texts that readings are compared on.
 
+use crate::bar_lines::{any_tapped, BarLines};
 use crate::grammars::{grammar, light_grammar};
-use crate::lists::{duration, played, sheet_text, units};
+use crate::lists::{bar_lines, played, sheet_text, units};
 use crate::peer::{self, BAR_UNITS};
 use crate::sheets::{self, Case, Dice};
 
@@ -56,9 +57,9 @@ pub fn small(dice: &mut Dice) -> Vec<u8> {
     let most = dice.pick(&[1, 2, 4, 6, 10]);
     let onsets = dice.between(1, most);
     let scale = scale(dice);
-    let (lines, duration) = (grammar(dice, scale), duration(dice));
+    let (lines, bar_lines) = (grammar(dice, scale), bar_lines(dice, bars));
     let units = units(dice, bars, onsets);
-    played(dice, lines, bars, duration, &units)
+    played(dice, lines, &bar_lines, &units)
 }
 
 /// The heaviest weight and the multiplier. Most often such that weights and
@@ -94,8 +95,17 @@ pub fn even(dice: &mut Dice) -> Vec<u8> {
     for unit in &mut units {
         *unit -= *unit % grain;
     }
-    let duration = dice.pick(&[BAR, 100 * BAR]);
-    played(dice, lines, bars, duration, &units)
+    let bar_lines = exact(dice, bars);
+    played(dice, lines, &bar_lines, &units)
+}
+
+/// Bar lines of either sort with a time for every unit.
+fn exact(dice: &mut Dice, bars: usize) -> BarLines {
+    match dice.below(3) {
+        0 => any_tapped(dice, bars, BAR),
+        1 => BarLines::even(bars, BAR),
+        _ => BarLines::even(bars, 100 * BAR),
+    }
 }
 
 /// The same with many bars.
@@ -121,5 +131,6 @@ fn late(dice: &mut Dice, bars: usize, onsets: usize) -> Vec<u8> {
         units.push((bars - 1) * BAR + dice.below(parts) * grain);
     }
     units.sort_unstable();
-    played(dice, lines, bars, BAR, &units)
+    let bar_lines = exact(dice, bars);
+    played(dice, lines, &bar_lines, &units)
 }

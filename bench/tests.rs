@@ -3,7 +3,9 @@
 // The tests use only some of the files' functions.
 #![allow(dead_code)]
 
+mod bar_lines;
 mod facts;
+mod fixed;
 mod grammars;
 mod harness;
 mod heads;
@@ -14,6 +16,7 @@ mod moments;
 mod multipliers;
 mod order_tests;
 mod orders;
+mod playing;
 mod rounded;
 mod rounded_tests;
 mod rounding;
@@ -23,7 +26,13 @@ mod search;
 mod sheets;
 mod slide_tests;
 mod takes;
+mod tap_refusals;
+mod tapped;
+mod tapped_tests;
+mod tapping;
+mod tapping_tests;
 mod trees;
 mod tunes;
+mod twins;
 
 use trees::peer;

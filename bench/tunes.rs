@@ -1,6 +1,7 @@
 //! Sheets for timing the search, always the same: tunes of any number of bars,
 //! and the heaviest sheets.
 
+use crate::bar_lines::BarLines;
 use crate::lists::{eight_anywhere, leaf_of, played_at, units_by_bar};
 use crate::moments::{first_times, FIXED_DURATION};
 use crate::orders::Order;
@@ -46,8 +47,9 @@ pub fn tune(bars: usize) -> Vec<u8> {
         }
     }
     let units = units_by_bar(&mut dice, bars, eight_in_beats);
-    let times = first_times(&units, FIXED_DURATION);
-    played_at(&mut dice, lines, bars, FIXED_DURATION, &times)
+    let bar_lines = BarLines::even(bars, FIXED_DURATION);
+    let times = first_times(&units, &bar_lines);
+    played_at(&mut dice, lines, &bar_lines, &times)
 }
 
 /// A bar of four beats of one, two, two and three onsets in any order.
@@ -105,8 +107,9 @@ fn heaviest_in(order: Order, dividing: usize, arities: impl Fn(usize) -> Vec<usi
     lines.extend(order.of(&rules));
     let mut units = units_by_bar(&mut dice, BARS, eight_anywhere);
     units[0] = 0;
-    let times = first_times(&units, FIXED_DURATION);
-    played_at(&mut dice, lines, BARS, FIXED_DURATION, &times)
+    let bar_lines = BarLines::even(BARS, FIXED_DURATION);
+    let times = first_times(&units, &bar_lines);
+    played_at(&mut dice, lines, &bar_lines, &times)
 }
 
 /// A rule of a small weight: heavy ones would settle where to divide early.

@@ -23,7 +23,7 @@
 extern "C" {
 #endif
 
-/* The number of a text's refusal (1 to 8) times 65,536, plus its line; 0: the text is accepted. */
+/* The number of a text's refusal (1 to 8, 17 to 19) times 65,536, plus its line; 0: the text is accepted. */
 uint32_t rhythm_check(const uint8_t *text, size_t text_length);
 
 /* The required length of the work slice of rhythm_find, in 64-bit cells; 0: the text is refused. */
@@ -35,6 +35,11 @@ uint64_t rhythm_tree_bytes(const uint8_t *text, size_t text_length);
 /* The unit of onset i, the nearest to its time, an exact half upwards, counted from the first bar; 0 past the last onset, and where the text is
  * refused. */
 uint32_t rhythm_onset_unit(const uint8_t *text, size_t text_length, size_t i);
+
+/* The moment of bar line i, from 0, in microseconds: where the bars were tapped tap i, and else i times the bar's duration. A sheet of
+   B bars has B + 1 bar lines, the last of which closes it. 0 past the last, and where the text is refused; line 0 may be at 0 too, so
+   ask rhythm_check which it is. */
+uint32_t rhythm_bar_line(const uint8_t *text, size_t text_length, size_t i);
 
 /* Prices a list of bytes. answer: refusal number, line, node count, R, D, total. The number is 0 exactly when the list is a valid tree of
    the sheet, and 12 exactly when the sheet is accepted and the list is none. */

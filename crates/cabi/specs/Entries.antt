@@ -3,7 +3,7 @@ use Prim.Native.Nat.{ℕ, _+_, _*_}
 use mathlib.Core.Path.{_≡_}
 use mathlib.Core.List.{List, [], _∷_}
 use lib.ListN.{length, getD}
-use Rattle.sheet.specs.Sheet.{Onset, TimedSheet}
+use Rattle.sheet.specs.Sheet.{Onset, TimedSheet, lineAt}
 use Rattle.sheet.specs.Outcome.{Outcome, refused, accepted, numberIn, lineIn, valueIn}
 use Rattle.sizes.specs.Sizes.{workCells, treeBytes}
 use Rattle.pricing.specs.declared.Priced.{Priced}
@@ -29,6 +29,11 @@ noOnset = record { unit = 0; pitch = 0 }
 abbrev pub unitAt : Outcome TimedSheet → ℕ → ℕ
 unitAt (refused k n) i = 0
 unitAt (accepted x) i = getD (x .sheet .playing .onsets) i noOnset .unit
+
+-- the moment of bar line i; 0 past the last, and for a refused text
+abbrev pub barLineOf : Outcome TimedSheet → ℕ → ℕ
+barLineOf (refused k n) i = 0
+barLineOf (accepted x) i = lineAt (x .timing) i
 
 -- the numbers of an answer of pricing or of finding, in its order
 abbrev pub answerCells : Priced → List ℕ

@@ -14,7 +14,7 @@ use Rattle.pricing.specs.Cases.{S-refuses-00, S-prices-010303}
 use Rattle.score.specs.Writing.{writeText, scoreAfter}
 use Rattle.score.specs.Cases.{S-short}
 use Rattle.finding.specs.FindingCases.{S-found}
-use Rattle.cabi.specs.Entries.{checkOf, workOf, treeOf, unitAt, answerCells, writeCells, FindCells}
+use Rattle.cabi.specs.Entries.{checkOf, workOf, treeOf, unitAt, barLineOf, answerCells, writeCells, FindCells}
 
 -- a text with refusal 2 at line 1
 abbrev bad : List ℕ
@@ -67,6 +67,16 @@ unit-from-1 e = omega arith
 unit-past-last : unitAt (readSheet S) 2 ≡ 11088 → ⊥
 unfolding readSheet
 unit-past-last e = omega arith
+
+-- `rhythm_bar_line` that counts lines from 1: line 1 of S is at 2,000,000, not 0
+line-from-1 : barLineOf (readSheet S) 1 ≡ 0 → ⊥
+unfolding readSheet
+line-from-1 e = omega arith
+
+-- `rhythm_bar_line` that goes on past the last line, one duration more
+line-past-last : barLineOf (readSheet S) 2 ≡ 4_000_000 → ⊥
+unfolding readSheet
+line-past-last e = omega arith
 
 -- `rhythm_price` with D in the place of R: of S's tree R is 8 and D 1,008
 price-D-for-R : 0 ∷ 0 ∷ 3 ∷ 1008 ∷ 8 ∷ 1088 ∷ [] ≡ answerCells (pricedOf (priceText S tree)) → ⊥

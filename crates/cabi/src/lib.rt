@@ -4,8 +4,9 @@ ghost use Rattle.sheet.specs.Reading.{readSheet};
 ghost use lib.ListN.{length};
 ghost use Rattle.pricing.specs.Pricing.{priceText, pricedOf};
 ghost use Rattle.score.specs.Writing.{writeText, scoreAfter};
-ghost use Rattle.cabi.specs.Entries.{checkOf, workOf, treeOf, unitAt, answerCells, writeCells, FindCells};
+ghost use Rattle.cabi.specs.Entries.{checkOf, workOf, treeOf, unitAt, barLineOf, answerCells, writeCells, FindCells};
 use pricing::Priced;
+use sheet::BAR_LINES_MOST;
 use sheet::ONSETS_MOST;
 
 // The number of a text's refusal times 65,536, plus its line; 0: the text is accepted.
@@ -58,6 +59,20 @@ pub extern "C" fn rhythm_onset_unit(text: &[u8], i: usize) -> u32
     let playing = r.playing;
     let unit = playing.units[i];
     unit.0
+}
+
+// The moment of bar line i, from 0, in microseconds; 0 past the last, and where the text is refused.
+#[no_mangle]
+pub extern "C" fn rhythm_bar_line(text: &[u8], i: usize) -> u32
+    ensures { λ r. ⌜ r ≡ barLineOf (readSheet (now (text .entry))) i ⌝ }
+{
+    let r = reading::read(text);
+    if BAR_LINES_MOST <= i {
+        return 0;
+    }
+    let timing = r.timing;
+    let moment = timing.lines[i];
+    moment.0
 }
 
 // An answer as numbers: refusal number, line, node count, R, D and total.

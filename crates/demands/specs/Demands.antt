@@ -6,6 +6,7 @@
 -- Contracts: `Reads` (sheet/specs/Held), `Prices` (pricing/specs/Pricing), `Writes` (score/specs/Writing), `Finds` (finding/specs/Finding),
 -- `Reports` (reporting/specs/Reporting). Names:
 --   Refuses text k n, Accepts text s   `readSheet text` is a refusal with number k and line n, or the sheet s
+--   ReadingNumber k                    k is 1 to 8, or 17 to 19 (sheet/specs/Numbers)
 --   refusedAs k n                      the answer with number k, line n and zeros elsewhere, as `readingOf (refused k n)` is for reading
 --   pricedAs s nodes R D, writtenAs n  the answer with number 0, line 0 and these figures with the total `totalOf s R D`, or n bytes
 --   scoreOf s p                        the `scoreText` of the valid tree p: of its own leaves, R, D and total
@@ -25,6 +26,7 @@ use Rattle.sheet.specs.declared.table.Reading.{Reading}
 use Rattle.sheet.specs.Sheet.{Sheet}
 use Rattle.sheet.specs.Outcome.{refused}
 use Rattle.sheet.specs.Held.{grammarTable, playingTable, readingOf, Reads}
+use Rattle.sheet.specs.Numbers.{ReadingNumber, reading-number}
 use Rattle.sheet.specs.Accepted.{Refuses, Accepts}
 use Rattle.sizes.specs.Sizes.{treeBytes, workCells}
 use Rattle.trees.specs.ValidTrees.{ValidTree, Priced, totalOf, entries, KindFits}
@@ -52,8 +54,8 @@ use Rattle.reporting.specs.OneAnswer as reporting
 
 -- "A faulty sheet [..] is refused with the paper's number, no result besides, tree and score slices untouched"
 module _ (text : List ℕ) (k n : ℕ) (faulty : Refuses text k n) where
-  pub read-refused : (r : Reading) → Reads text r → (r ≡ readingOf (refused k n)) × (1 ≤ k) × (k ≤ 8)
-  read-refused r h = let g = find.refusal-number text k n faulty in (h ∙ ap readingOf faulty, g .0, g .1)
+  pub read-refused : (r : Reading) → Reads text r → (r ≡ readingOf (refused k n)) × ReadingNumber k
+  read-refused r h = (h ∙ ap readingOf faulty, reading-number text k n faulty)
 
   pub price-refused : (list : List ℕ) (r : answer.Priced) → Prices text list r → r ≡ refusedAs k n
   price-refused list r h = price.text-refused text list h k n faulty

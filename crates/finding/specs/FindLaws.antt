@@ -11,8 +11,6 @@ use Rattle.slices.specs.Every.{Every}
 use Rattle.slices.specs.Over.{over-drop}
 use Rattle.sheet.specs.Sheet.{Sheet}
 use Rattle.sheet.specs.Outcome.{Outcome, refused, accepted}
-use Rattle.sheet.specs.Bounds.{refused-within}
-use Rattle.sheet.specs.Numbers.{refused-most}
 use Rattle.sheet.specs.Good.{Good}
 use Rattle.sheet.specs.Accepted.{Refuses, Accepts, accepted-good, refuses-or-accepts}
 use Rattle.sizes.specs.Sizes.{treeBytes, workCells}
@@ -28,10 +26,6 @@ use Rattle.finding.specs.Outcomes.{work-short, tree-short, none-found, o
 use Rattle.finding.specs.FindingLaws.{tree-fits, has-tree, has-none, some-then-zero, zero-then-some, none-then-eleven}
 use Rattle.finding.specs.FindingLaws.{eleven-then-none, short-neither, refused-neither, refused-found, sheet-found}
 use Rattle.finding.specs.FindingLaws.{TreeHandedBack, tree-handed-back}
-
--- a refusal by reading has a number from 1 to 8
-pub refusal-number : (text : List ℕ) (k n : ℕ) → Refuses text k n → (1 ≤ k) × (k ≤ 8)
-refusal-number text k n e = (refused-within text k n e .0, refused-most text k n e)
 
 -- ---- what finding comes to, by the lengths of the slices and by whether there is a tree
 

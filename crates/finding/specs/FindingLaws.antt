@@ -16,9 +16,8 @@ use Rattle.slices.specs.Over.{over, length-over, take-over, drop-over}
 use Rattle.sheet.specs.Sheet.{Sheet, barUnits}
 use Rattle.sheet.specs.Outcome.{Outcome, refused, accepted}
 use Rattle.sheet.specs.Accepted.{Refuses, Accepts, accepted-good, refuses-or-accepts, on-refusal, on-sheet}
-use Rattle.sheet.specs.Numbers.{refused-most}
+use Rattle.sheet.specs.Numbers.{ReadingNumber, reading-apart, reading-number}
 use Rattle.sheet.specs.Good.{Good}
-use Rattle.sheet.specs.Bounds.{refused-within}
 use Rattle.sizes.specs.Sizes.{treeBytes, workCells}
 use Rattle.derivations.specs.Derivation.{Price, derive}
 use Rattle.trees.specs.ValidTrees.{adjoining, bars, ValidTree, totalOf}
@@ -169,15 +168,14 @@ module _ (text : List ℕ) (tree work : ℕ) where
 
 module _ (text : List ℕ) {tree treeAfter work workAfter : List ℕ} {answer : Priced} where
   module _ (f : Finds text tree treeAfter work workAfter answer) where
-    -- of a text that is refused the number is reading's; it is 1 to 8
-    pub refused-number : (k n : ℕ) → Refuses text k n → (answer .number ≡ k) × (1 ≤ k) × (k ≤ 8)
-    refused-number k n e =
-        (f .number ∙ ap numberOf (refused-found text _ _ k n e), refused-within text k n e .0, refused-most text k n e)
+    -- of a text that is refused the number is reading's
+    pub refused-number : (k n : ℕ) → Refuses text k n → (answer .number ≡ k) × ReadingNumber k
+    refused-number k n e = (f .number ∙ ap numberOf (refused-found text _ _ k n e), reading-number text k n e)
 
     -- number 0: a tree is handed back
     pub handed-back : answer .number ≡ 0 → HandedBack text tree treeAfter work workAfter answer
     handed-back z = elim (refuses-or-accepts text) [
-      | inl (k, n, e) ↦ let (q, one, most) = refused-number k n e in let f : ⊥ = omega arith in absurd f
+      | inl (k, n, e) ↦ let (q, of-reading) = refused-number k n e in absurd (reading-apart k of-reading .0 (sym q ∙ z))
       | inr (s, a) ↦
           let at-sheet = subst (λ o. Gives o tree treeAfter work workAfter answer) (sheet-found text _ _ s a) f in
           record { sheet = s; accepts = a; back = tree-handed-back s (accepted-good text s a) at-sheet z }
@@ -185,7 +183,10 @@ module _ (text : List ℕ) {tree treeAfter work workAfter : List ℕ} {answer : 
 
     -- a refused text: neither 0 nor 11
     pub refused-neither : (k n : ℕ) → Refuses text k n → (answer .number ≡ 0 → ⊥) × (answer .number ≡ 11 → ⊥)
-    refused-neither k n e = let (q, one, most) = refused-number k n e in (λ z. omega arith, λ z. omega arith)
+    refused-neither k n e =
+        let (q, of-reading) = refused-number k n e in
+        let apart = reading-apart k of-reading in
+        (λ z. apart .0 (sym q ∙ z), λ z. apart .1 11 (omega arith) (omega arith) (sym q ∙ z))
 
     module _ (s : Sheet) (a : Accepts text s) where
       ok : Good s

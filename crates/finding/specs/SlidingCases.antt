@@ -41,7 +41,7 @@ sheetTie =
 
 tie-means : Accepts bar-or-tie sheetTie
 unfolding readSheet
-tie-means = (record { duration = 2_000_000 }, refl)
+tie-means = (record { barLines = 0 ∷ 2_000_000 ∷ [] }, refl)
 
 pub tie-slid : (a : ℕ) → a ≤ 65535 → Accepts (slid a bar-or-tie) (withMultiplier a sheetTie)
 tie-slid a h = slid-accepted bar-or-tie sheetTie a tie-means h

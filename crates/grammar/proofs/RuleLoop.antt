@@ -20,7 +20,8 @@ use Rattle.sheet.specs.Held.{LineHeld, grammarTable, partsOf, childCells}
 use Rattle.sheet.specs.Good.{GoodRules}
 use Rattle.sheet.specs.SoFar.{GoodProgress}
 use Rattle.sheet.specs.Laws.{demand-zero, end-in-rules}
-use Rattle.sheet.specs.GoodLines.{line-small, good-after}
+use Rattle.sheet.specs.GoodBars.{line-small}
+use Rattle.sheet.specs.GoodLines.{good-after}
 use Rattle.grammar.specs.Contracts.{cellOf, arityOf, RulesDone, RulesRead}
 use Rattle.grammar.proofs.Tables.{cell-is, parts-are, room, rule-stored}
 

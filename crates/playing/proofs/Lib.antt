@@ -2,3 +2,4 @@ pub mod OnsetSteps
 pub mod Tables
 pub mod OnsetLoop
 pub mod HeadLine
+pub mod Moments

@@ -1,11 +1,11 @@
 -- The loop over the onset lines: what holds where some have been read, how a line keeps it, and how it ends. Assumes nothing.
 use Prim.Native.Nat.{ℕ, _+_, _<_, _≤_}
-use mathlib.Core.Path.{_≡_, refl, sym, ap, _∙_}
+use mathlib.Core.Path.{_≡_, refl, sym, ap, subst, _∙_}
+use mathlib.Core.Bool.{Bool}
 use mathlib.Core.List.{List, [], _∷_}
 use native.Mathlib.Nat.{le-trans, le-of-eq}
 use native.Mathlib.Omega.{arith}
 use lib.ListN.{length, drop, set, length-append}
-use lib.Dec.{eqb}
 use Rattle.hextext.specs.declared.line.Line.{Line}
 use Rattle.hextext.specs.Text.{lineBytes}
 use Rattle.hextext.specs.Packed.{lineRead}
@@ -15,58 +15,64 @@ use Rattle.sheet.specs.declared.table.PlayingTable.{PlayingTable}
 use Rattle.playing.specs.declared.onset.Latest.{Latest}
 use Rattle.playing.specs.declared.onset.OnsetStep.{OnsetStep}
 use Rattle.playing.specs.declared.Take.{Take}
-use Rattle.sheet.specs.Sheet.{Grammar, Playing, Timing, TimedSheet, inBar}
+use Rattle.sheet.specs.Sheet.{Grammar, Playing, Timing, TimedSheet, noPlaying, unitIn, barOf, inBar}
 use Rattle.sheet.specs.Outcome.{Outcome, accepted}
 use Rattle.sheet.specs.Reading.{byte, four, onsetRefusal, onsetOf, withOnset, inOnsets, refusal, after}
 use Rattle.sheet.specs.Rest.{readRest, stopped, rest-end, rest-past, rest-bad, rest-stop, rest-held, rest-on}
-use Rattle.sheet.specs.Held.{LineHeld, units, playingTable, noGrammar, noPlaying, micros}
+use Rattle.sheet.specs.Held.{LineHeld, units, playingTable, timingTable, noGrammar, micros}
 use Rattle.sheet.specs.SoFar.{GoodSoFar}
-use Rattle.playing.specs.Contracts.{latestOf, OnsetStepped, TakeRead}
-use Rattle.sheet.specs.Clock.{first-bar}
-use Rattle.sheet.specs.Laws.{cond-zero, onset-passed, end-without, end-with}
+use Rattle.sheet.specs.BarLines.{first-bar, rises}
+use Rattle.sheet.specs.Laws.{end-without, end-with}
+use Rattle.sheet.specs.PlayingLaws.{onset-passed, onset-line}
+use Rattle.sheet.specs.GoodBars.{good-none}
 use Rattle.sheet.specs.GoodLines.{good-onset}
+use Rattle.bar_lines.specs.declared.clock.Clock.{Clock}
+use Rattle.bar_lines.specs.Lines.{ClockOf}
+use Rattle.playing.specs.Contracts.{timingIn, tappedIn, latestOf, LatestIn, OnsetsSoFar, OnsetStepped, OnsetStepOf, TakeRead}
 use Rattle.playing.proofs.Tables.{onset-stored}
 
--- of the lines from line n, at place `at`, on, those before line n′, at place at′, have been read as k onsets
-pub record OnsetsSoFar (t : List ℕ) (at n bars : ℕ) (timing : Timing)
-    (table : PlayingTable) (s : Latest) (at′ n′ k : ℕ) : Type 0 where
-  pub playing : Playing
-  pub last : ℕ
-  pub good : GoodSoFar timing playing last
-  pub bars-are : bars ≡ playing .bars
-  pub count : k ≡ length (playing .onsets)
-  pub table-is : table ≡ playingTable playing
-  pub latest : s ≡ latestOf timing playing last
-  pub within : at′ ≤ length t
-  pub line : n′ ≤ at′ + 1
-  pub numbered : 0 < n′
-  pub rest : (g : Grammar)
-      → readRest (inOnsets g timing (noPlaying bars) 0) n (drop at t) ≡ readRest (inOnsets g timing playing last) n′ (drop at′ t)
-
 -- none yet
-pub onsets-none : (t : List ℕ) (at n bars : ℕ) (timing : Timing) (table : PlayingTable) → at ≤ length t → n ≤ at + 1 → 0 < n
-    → GoodSoFar timing (noPlaying bars) 0
-    → table ≡ playingTable (noPlaying bars)
-    → OnsetsSoFar t at n bars timing table (record { time = micros 0; bar = 0; run = 0 }) at n 0
+pub onsets-none : (t : List ℕ) (at n : ℕ) (c : Clock) (cells : List ℕ) (table : PlayingTable) (s : Latest) → at ≤ length t
+    → n ≤ at + 1 → 0 < n → ClockOf cells c → table ≡ playingTable (noPlaying (c .bars))
+    → s ≡ record { time = micros 0; bar = 0; run = 0 } → OnsetsSoFar t at n c cells table s at n 0
 unfolding inBar
-onsets-none t at n bars timing table w l pos good e =
-    let lasting : 0 < timing .duration = let time = good .time in omega (arith, time .shortest) in
+onsets-none t at n c cells table s w l pos clock e none =
+    let lines = clock .lines in
+    let timing = timingIn cells c in
     record {
-      playing = noPlaying bars;
+      playing = noPlaying (c .bars);
       last = 0;
-      good = good;
+      good = record { time = lines .time; onsets = good-none (c .bars) (lines .one) (lines .sixty-four); before = tt };
       bars-are = refl;
       count = refl;
       table-is = e;
-      latest = λ j. record { time = micros 0; bar = first-bar (timing .duration) lasting j; run = 0 };
+      latest =
+          none
+          ∙ (λ j. record {
+            time = micros 0;
+            bar = first-bar timing (c .bars) (lines .time .count) (rises (c .bars) timing (lines .time)) (lines .one) j;
+            run = 0;
+          });
       within = w;
       line = l;
       numbered = pos;
       rest = λ g. refl;
     }
 
-module _ {t : List ℕ} {at n bars : ℕ} {timing : Timing} {table : PlayingTable} {s : Latest} {at′ n′ k : ℕ}
-    (h : OnsetsSoFar t at n bars timing table s at′ n′ k) where
+-- another name for the number of the next line
+pub renumbered : {t : List ℕ} {at n : ℕ} {c : Clock} {cells : List ℕ} {table : PlayingTable} {s : Latest} {at′ n′ m k : ℕ} → n′ ≡ m
+    → OnsetsSoFar t at n c cells table s at′ n′ k → OnsetsSoFar t at n c cells table s at′ m k
+renumbered {t} {at} {n} {c} {cells} {table} {s} {at′} {n′} {m} {k} e h =
+    subst (λ (j : ℕ). OnsetsSoFar t at n c cells table s at′ j k) e h
+
+module _ {t : List ℕ} {at n : ℕ} {c : Clock} {cells : List ℕ} {table : PlayingTable} {s : Latest} {at′ n′ k : ℕ}
+    (h : OnsetsSoFar t at n c cells table s at′ n′ k) where
+  abbrev timing : Timing
+  timing = timingIn cells c
+
+  abbrev tapped : Bool
+  tapped = tappedIn c
+
   abbrev p : Playing
   p = h .playing
 
@@ -75,53 +81,54 @@ module _ {t : List ℕ} {at n bars : ℕ} {timing : Timing} {table : PlayingTabl
 
   -- reading stops at line n′ with number m
   abbrev Stops : Grammar → ℕ → Type 0
-  Stops g m = readRest (inOnsets g timing (noPlaying bars) 0) n (drop at t) ≡ stopped m n′ (drop at′ t)
+  Stops g m = readRest (inOnsets g tapped timing (noPlaying (c .bars)) 0) n (drop at t) ≡ stopped m n′ (drop at′ t)
 
-  -- another line is read
+  -- the bar of the last onset is that of its time's unit
+  pub latest-in : LatestIn cells c s
+  latest-in = let e = h .latest in ap (λ (x : Latest). x .bar) e ∙ ap (λ (x : Latest). barOf (unitIn timing (x .time .0))) (sym e)
+      -- another line is read
+
   module _ (inside : at′ < length t) (l : Line) (is : l ≡ lineRead t at′) where
     -- a bad one
     pub onsets-bad : (g : Grammar) → l .count ≡ 0 → (m : ℕ) → Stops g m
-    onsets-bad g e m = h .rest g ∙ rest-bad t at′ inside l is (inOnsets g timing p (h .last)) n′ (h .numbered) e m
+    onsets-bad g e m = h .rest g ∙ rest-bad t at′ inside l is (inOnsets g tapped timing p (h .last)) n′ (h .numbered) e m
 
     -- one that is well formed
     module _ (filled : l .count ≡ 0 → ⊥) (r : OnsetStep)
-        (step : (c : List ℕ) → LineHeld l c → (g : Grammar) (q : Playing) (last : ℕ) → GoodSoFar timing q last
-        → bars ≡ q .bars
-        → k ≡ length (q .onsets) → s ≡ latestOf timing q last → OnsetStepped g timing q last c r) where
+        (told : (d : List ℕ) → LineHeld l d → OnsetStepOf (c .bars) tapped timing k s d r) where
       line-held : LineHeld l b
       line-held = rest-held t at′ inside l is filled
 
-      stepped : (g : Grammar) → OnsetStepped g timing p (h .last) b r
-      stepped g = step b line-held g p (h .last) (h .good) (h .bars-are) (h .count) (h .latest)
+      stepped : (g : Grammar) → OnsetStepped g tapped timing p (h .last) b r
+      stepped g = told b line-held g p (h .last) (h .good) (h .bars-are) (h .count) (h .latest)
 
       -- and refused
       pub onsets-stop : (g : Grammar) → (r .number ≡ 0 → ⊥) → Stops g (r .number)
       onsets-stop g f =
-          h .rest g ∙ rest-stop t at′ inside l is (inOnsets g timing p (h .last)) n′ (r .number) (stepped g .number) f
+          h .rest g ∙ rest-stop t at′ inside l is (inOnsets g tapped timing p (h .last)) n′ (r .number) (stepped g .number) f
 
       -- or taken
       module _ (z : r .number ≡ 0) where
         met : onsetRefusal timing p (h .last) b ≡ 0
-        unfolding refusal
-        met = cond-zero (eqb (byte b 0) 0x4E) _ 2 (sym (stepped noGrammar .number) ∙ z) .1
+        met = onset-line noGrammar tapped timing p (h .last) b (sym (stepped noGrammar .number) ∙ z) .1
 
         pub onsets-room : k < 512
         onsets-room = let m = onset-passed timing p (h .last) b met .room in omega (arith, h .count)
 
         onward : (g : Grammar)
-            → readRest (inOnsets g timing p (h .last)) n′ (drop at′ t)
-            ≡ readRest (inOnsets g timing (withOnset p (onsetOf timing b)) (four b 1)) (n′ + 1) (drop (l .next) t)
+            → readRest (inOnsets g tapped timing p (h .last)) n′ (drop at′ t)
+            ≡ readRest (inOnsets g tapped timing (withOnset p (onsetOf timing b)) (four b 1)) (n′ + 1) (drop (l .next) t)
         unfolding after
-        onward g = rest-on t at′ inside l is (inOnsets g timing p (h .last)) n′ filled (sym (stepped g .number) ∙ z)
+        onward g = rest-on t at′ inside l is (inOnsets g tapped timing p (h .last)) n′ filled (sym (stepped g .number) ∙ z)
 
-        pub onsets-more : (pitch : ℕ) → ((c : List ℕ) → LineHeld l c → pitch ≡ byte c 5) → (table′ : PlayingTable)
+        pub onsets-more : (pitch : ℕ) → ((d : List ℕ) → LineHeld l d → pitch ≡ byte d 5) → (table′ : PlayingTable)
             → table′ ≡ record {
               bars = table .bars;
               count = k + 1;
               units = set (table .units) k (r .unit);
               pitches = set (table .pitches) k pitch;
             }
-            → OnsetsSoFar t at n bars timing table′ (r .latest) (l .next) (n′ + 1) (k + 1)
+            → OnsetsSoFar t at n c cells table′ (r .latest) (l .next) (n′ + 1) (k + 1)
         unfolding onsetOf withOnset
         onsets-more pitch pitch-is table′ e =
             let o = onsetOf timing b in
@@ -150,14 +157,32 @@ module _ {t : List ℕ} {at n bars : ℕ} {timing : Timing} {table : PlayingTabl
     pub onsets-missing : k ≡ 0 → Stops g 3
     onsets-missing e =
         h .rest g
-        ∙ rest-end (inOnsets g timing p (h .last)) n′ t at′ 3 past (end-without g timing p (h .last) n′ (sym (h .count) ∙ e))
+        ∙ rest-end (inOnsets g tapped timing p (h .last)) n′ t at′ 3 past (end-without g tapped timing p (h .last) n′ (sym (h .count) ∙ e))
 
     -- after it
-    pub onsets-done : (k ≡ 0 → ⊥) → readRest (inOnsets g timing (noPlaying bars) 0) n (drop at t) ≡ accepted
+    pub onsets-done : (k ≡ 0 → ⊥) → readRest (inOnsets g tapped timing (noPlaying (c .bars)) 0) n (drop at t) ≡ accepted
         (record { sheet = record { grammar = g; playing = p }; timing = timing })
     onsets-done f =
-        h .rest g ∙ rest-past (inOnsets g timing p (h .last)) n′ t at′ past
-        ∙ end-with g timing p (h .last) n′ (λ e. f (h .count ∙ e))
+        h .rest g ∙ rest-past (inOnsets g tapped timing p (h .last)) n′ t at′ past
+        ∙ end-with g tapped timing p (h .last) n′ (λ e. f (h .count ∙ e))
+
+  -- and what is returned then
+  module _ (past : length t ≤ at′) (g : Grammar) where
+    pub take-done : (k ≡ 0 → ⊥) → (r : Take) → r .number ≡ 0 → r .playing ≡ table → r .timing ≡ timingTable timing
+        → TakeRead t (readRest (inOnsets g tapped timing (noPlaying (c .bars)) 0) n (drop at t)) g r
+    take-done f r z e time =
+        record {
+          stop = λ no. absurd (no z);
+          place = λ no. absurd (no z);
+          done = λ _.
+              record {
+                playing = p;
+                timing = timing;
+                table = e ∙ h .table-is;
+                timing-table = time;
+                sheet = onsets-done past g f;
+              };
+        }
 
 -- what is returned where a line is bad or refused, or none is left
 pub take-refused : {t : List ℕ} {o : Outcome TimedSheet} {g : Grammar} {number line at : ℕ} (r : Take)

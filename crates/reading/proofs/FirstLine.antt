@@ -14,7 +14,8 @@ use Rattle.sheet.specs.Laws.{ill-formed}
 use Rattle.sheet.specs.Rest.{readRest, stopped, rest-bad, rest-stop, rest-held, rest-on}
 use Rattle.sheet.specs.Held.{LineHeld}
 use Rattle.sheet.specs.Good.{GoodRules}
-use Rattle.sheet.specs.GoodLines.{line-small, good-after}
+use Rattle.sheet.specs.GoodBars.{line-small}
+use Rattle.sheet.specs.GoodLines.{good-after}
 
 module _ (t : List ℕ) (some : 0 < length t) (l : Line) (is : l ≡ lineRead t 0) where
   abbrev b : List ℕ

@@ -1,4 +1,4 @@
-// Reading a sheet: a text is refused, by document 01's numbers 1 to 8, or means a grammar and a playing in units.
+// Reading a sheet: a text is refused, by numbers 1 to 8 and 17 to 19, or means a grammar, bar lines, and a playing in units.
 ghost use mathlib.Core.Path.{_≡_};
 ghost use Prim.Native.Nat.{_+_, _<_, _≤_};
 ghost use lib.ListN.{length, drop};
@@ -15,24 +15,23 @@ use hextext::Digits;
 use hextext::bad_from;
 use hextext::digit_table;
 use hextext::line_at;
+use playing::even_playing;
 use playing::no_onsets;
+use playing::no_timing;
 use playing::read_playing;
-use sheet::Micros;
 use sheet::Reading;
 use sheet::TEXT_MOST;
-use sheet::TimingTable;
 
 fn refused_at(number: u8, line: usize) -> Reading
     ensures { λ r. ⌜ r ≡ readingOf (refused number line) ⌝ }
 {
     let grammar = no_grammar();
+    let timing = no_timing();
     let playing = no_onsets(0);
     Reading {
         number,
         line,
-        timing: TimingTable {
-            duration: Micros(0),
-        },
+        timing,
         grammar,
         playing,
     }
@@ -70,6 +69,21 @@ fn read_lines(digits: &Digits, text: &[u8]) -> Reading
     let rules_number = rules.number;
     if rules_number != 0 {
         return stopped_at(digits, text, rules.at, rules.line, rules_number);
+    }
+    // Most sheets are read by this loop. Both ways end in a reading of their own: joined, they would be copied.
+    let even = even_playing(digits, text, rules.at, rules.end);
+    let even_number = even.number;
+    if even_number == 0 {
+        let grammar = rules.grammar;
+        let timing = even.timing;
+        let playing = even.playing;
+        return Reading {
+            number: 0,
+            line: 0,
+            timing,
+            grammar,
+            playing,
+        };
     }
     let take = read_playing(digits, text, rules.at, rules.line, rules.end);
     let take_number = take.number;

@@ -12,7 +12,7 @@ use Rattle.hextext.specs.Text.{badLine, lines}
 use Rattle.hextext.specs.Laws.{bad-line-most, lines-most}
 use Rattle.sheet.specs.Sheet.{TimedSheet}
 use Rattle.sheet.specs.Outcome.{Outcome, refused, accepted}
-use Rattle.sheet.specs.Reading.{Progress, nothing, inRules, inOnsets, refusal, after, atEnd}
+use Rattle.sheet.specs.Reading.{Progress, nothing, inRules, inTaps, inOnsets, refusal, after, atEnd}
 use Rattle.sheet.specs.Reading.{readLines, readSheet}
 use Rattle.sheet.specs.Laws.{read-on, read-stop, too-long, ill-formed, well-formed}
 
@@ -29,7 +29,8 @@ end-within : (r : Progress) (n : ℕ) → Within n (atEnd r n)
 unfolding atEnd
 end-within nothing n = (omega arith, omega arith)
 end-within (inRules g) n = (omega arith, omega arith)
-end-within (inOnsets g timing p last) n = go (ltb 0 (length (p .onsets)))
+end-within (inTaps g bars taps) n = (omega arith, omega arith)
+end-within (inOnsets g tapped timing p last) n = go (ltb 0 (length (p .onsets)))
   where
     go : (t : Bool) → Within n (cond t (accepted (record { sheet = record { grammar = g; playing = p }; timing = timing })) (refused 3 n))
     go true = tt

@@ -39,7 +39,7 @@ sheetS =
       };
     }
 
-pub S-means : readSheet S ≡ accepted (record { sheet = sheetS; timing = record { duration = 2_000_000 } })
+pub S-means : readSheet S ≡ accepted (record { sheet = sheetS; timing = record { barLines = 0 ∷ 2_000_000 ∷ [] } })
 unfolding readSheet
 S-means = refl
 

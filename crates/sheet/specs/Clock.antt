@@ -1,10 +1,8 @@
 -- Laws of the conversion from microseconds to units.
 use Prim.Native.Nat.{ℕ, _-_, _*_, _/_, _^_, _≤_, _<_}
-use mathlib.Core.Path.{_≡_, ap}
 use native.Mathlib.Omega.{arith}
 use native.Mathlib.Nat.{mul-le-mul, le-div-iff-mul-le, div-lt-iff-lt-mul, div-mul-le-self, le-trans}
-use Rattle.sheet.specs.Sheet.{barUnits, unitOf, barOf}
-use Rattle.sheet.specs.Nearest.{rounded-unit}
+use Rattle.sheet.specs.Sheet.{Timing, barUnits, unitOf, endOf, lasting}
 
 -- B × duration fits 32 bits
 pub end-fits : {b d : ℕ} → b ≤ 64 → d ≤ 60_000_000 → b * d < 2 ^ 32
@@ -19,20 +17,16 @@ pub unit-mono : (d : ℕ) {s t : ℕ} → 0 < d → s ≤ t → unitOf d s ≤ u
 unfolding unitOf
 unit-mono d p h = div-mono (2 * d) (omega arith) (omega arith)
 
--- time 0 is in the first bar
-pub first-bar : (d : ℕ) → 0 < d → 0 ≡ barOf (unitOf d 0)
-first-bar d p = ap barOf (rounded-unit d 0 0 p (record { least = omega arith; below = omega arith }))
+-- the first moment whose unit is at or past the end of the last bar: half a unit before the end
+abbrev pub firstPastEnd : (bars : ℕ) → Timing → ℕ
+firstPastEnd bars timing = endOf bars timing - lasting timing (bars - 1) / (2 * barUnits)
 
--- the first moment whose unit is at or past the end of B bars that last d: half a unit before the end
-abbrev pub firstPastEnd : (B d : ℕ) → ℕ
-firstPastEnd B d = B * d - d / (2 * barUnits)
-
--- from it on the unit is, and before it neither the time nor the unit is
-module _ (B d t : ℕ) (lasts : 0 < d) where
-  pub end-reached : firstPastEnd B d ≤ t → B * barUnits ≤ unitOf d t
+-- of a bar that lasts d: from half a unit before its end on the unit is the next bar's, and before it it is not
+module _ (d t : ℕ) (lasts : 0 < d) where
+  pub bar-reached : d - d / (2 * barUnits) ≤ t → barUnits ≤ unitOf d t
   unfolding unitOf
-  end-reached h = le-div-iff-mul-le {k = 2 * d} (omega arith) .1 (omega (arith, h))
+  bar-reached h = le-div-iff-mul-le {k = 2 * d} (omega arith) .1 (omega (arith, h))
 
-  pub end-not-reached : t < firstPastEnd B d → (t < B * d) × (unitOf d t < B * barUnits)
+  pub bar-not-reached : t < d - d / (2 * barUnits) → unitOf d t < barUnits
   unfolding unitOf
-  end-not-reached h = (omega (arith, h), div-lt-iff-lt-mul {k = 2 * d} (omega arith) .1 (omega (arith, h)))
+  bar-not-reached h = div-lt-iff-lt-mul {k = 2 * d} (omega arith) .1 (omega (arith, h))

@@ -2,7 +2,7 @@
 -- Assumes nothing.
 use Prim.Native.Nat.{ℕ, _<_, _≤_}
 use mathlib.Core.Path.{_≡_}
-use mathlib.Core.Bool.{true, false}
+use mathlib.Core.Bool.{true, false, cond}
 use mathlib.Core.List.{List}
 use lib.Dec.{ltb, leb, eqb}
 use borrow.Author.Tests.{eq-eqb, ne-eqb, lt-ltb, le-ltb, le-leb, lt-leb}
@@ -28,6 +28,13 @@ module _ (a b r k x : ℕ) where
   pub fail-lt : b ≤ a → x ≡ r → x ≡ demand (ltb a b) r k
   fail-lt h e = simp (le-ltb a b h) e
 
+  -- a case that ends the demands, or does not
+  pub case-met : a ≡ b → x ≡ r → x ≡ cond (eqb a b) r k
+  case-met h e = simp (eq-eqb a b h) e
+
+  pub case-other : (a ≡ b → ⊥) → x ≡ k → x ≡ cond (eqb a b) r k
+  case-other h e = simp (ne-eqb a b h) e
+
 -- the demand that all parts are nonterminals
 module _ (q : ℕ) (xs : List ℕ) (r k x : ℕ) where
   pub pass-below : allBelow q xs ≡ true → x ≡ k → x ≡ demand (allBelow q xs) r k
@@ -36,4 +43,4 @@ module _ (q : ℕ) (xs : List ℕ) (r k x : ℕ) where
   pub fail-below : allBelow q xs ≡ false → x ≡ r → x ≡ demand (allBelow q xs) r k
   fail-below h e = simp h e
 
-pub ruleset demands = (needs, pass-eq, fail-eq, pass-le, fail-le, pass-lt, fail-lt)
+pub ruleset demands = (needs, pass-eq, fail-eq, pass-le, fail-le, pass-lt, fail-lt, case-met, case-other)

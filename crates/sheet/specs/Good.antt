@@ -1,8 +1,9 @@
 -- What layers above reading may rely on: `Good`, which `GoodLaws.good` proves of every accepted text. It speaks of the sheet alone; what
 -- holds of its real time is `GoodTiming`.
-use Prim.Native.Nat.{ℕ, _*_, _≤_, _<_}
+use Prim.Native.Nat.{ℕ, _+_, _*_, _^_, _≤_, _<_}
+use mathlib.Core.Path.{_≡_}
 use mathlib.Core.List.{List, [], _∷_}
-use lib.ListN.{length}
+use lib.ListN.{length, getD}
 use Rattle.slices.specs.Every.{Every}
 use Rattle.sheet.specs.Sheet.{Rule, division, leaf, Onset, Grammar, Playing, Sheet, Timing, barUnits, inBar}
 
@@ -48,10 +49,16 @@ pub record GoodOnsets (p : Playing) : Type 0 where
   pub rising : Rising 0 (p .onsets)
   pub few : (b : ℕ) → inBar b (p .onsets) ≤ 32
 
--- one bar's duration
-pub record GoodTiming (timing : Timing) : Type 0 where
-  pub shortest : 1000 ≤ timing .duration
-  pub longest : timing .duration ≤ 60_000_000
+-- bar lines while they are read: each bar lasts 1,000 to 60,000,000, and every moment has four bytes
+pub record GoodSteps (lines : List ℕ) : Type 0 where
+  pub shortest : (b : ℕ) → b + 1 < length lines → getD lines b 0 + 1000 ≤ getD lines (b + 1) 0
+  pub longest : (b : ℕ) → b + 1 < length lines → getD lines (b + 1) 0 ≤ getD lines b 0 + 60_000_000
+  pub fits : (i : ℕ) → i < length lines → getD lines i 0 < 2 ^ 32
+
+-- the bar lines of a playing
+pub record GoodTiming (bars : ℕ) (timing : Timing) : Type 0 where
+  pub count : length (timing .barLines) ≡ bars + 1
+  pub steps : GoodSteps (timing .barLines)
 
 -- an accepted sheet
 pub record Good (s : Sheet) : Type 0 where

@@ -13,15 +13,16 @@ use Rattle.hextext.specs.Text.{lines, badLine}
 use Rattle.hextext.specs.Laws.{lines-small}
 use Rattle.sheet.specs.Sheet.{TimedSheet}
 use Rattle.sheet.specs.Outcome.{Outcome, refused, accepted}
-use Rattle.sheet.specs.Reading.{Progress, nothing, inRules, inOnsets, refusal, after, atEnd, readLines, readSheet}
+use Rattle.sheet.specs.Reading.{Progress, nothing, inRules, inTaps, inOnsets, refusal, after, atEnd, readLines, readSheet}
 use Rattle.sheet.specs.Good.{GoodTiming, Good}
 use Rattle.sheet.specs.SoFar.{GoodProgress}
 use Rattle.sheet.specs.Laws.{read-on, read-stop, too-long, ill-formed, well-formed}
-use Rattle.sheet.specs.GoodLines.{line-small, good-after}
+use Rattle.sheet.specs.GoodBars.{line-small}
+use Rattle.sheet.specs.GoodLines.{good-after}
 
 -- what holds of an accepted text: of its sheet and of its timing
 abbrev GoodText : TimedSheet → Type 0
-GoodText x = Good (x .sheet) × GoodTiming (x .timing)
+GoodText x = Good (x .sheet) × GoodTiming (x .sheet .playing .bars) (x .timing)
 
 abbrev Accepted : Outcome TimedSheet → Type 0
 Accepted (refused k n) = Unit {0}
@@ -31,7 +32,8 @@ good-end : (r : Progress) (n : ℕ) → GoodProgress r → Accepted (atEnd r n)
 unfolding atEnd
 good-end nothing n h = tt
 good-end (inRules g) n h = tt
-good-end (inOnsets g timing p last) n h = go (ltb 0 (length (p .onsets))) refl
+good-end (inTaps g bars taps) n h = tt
+good-end (inOnsets g tapped timing p last) n h = go (ltb 0 (length (p .onsets))) refl
   where
     go : (k : Bool) → ltb 0 (length (p .onsets)) ≡ k
         → Accepted (cond k (accepted (record { sheet = record { grammar = g; playing = p }; timing = timing })) (refused 3 n))
@@ -74,5 +76,5 @@ sheet-accepted t = go (decLe (length t) 16384)
 pub good : (t : List ℕ) (x : TimedSheet) → readSheet t ≡ accepted x → Good (x .sheet)
 good t x e = subst Accepted e (sheet-accepted t) .0
 
-pub good-timing : (t : List ℕ) (x : TimedSheet) → readSheet t ≡ accepted x → GoodTiming (x .timing)
+pub good-timing : (t : List ℕ) (x : TimedSheet) → readSheet t ≡ accepted x → GoodTiming (x .sheet .playing .bars) (x .timing)
 good-timing t x e = subst Accepted e (sheet-accepted t) .1

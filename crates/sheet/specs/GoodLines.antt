@@ -10,26 +10,16 @@ use lib.ListN.{length, length-append}
 use lib.Dec.{eqb, ltb}
 use borrow.Author.Tests.{eq-eqb, ne-eqb, ltb-true}
 use Rattle.slices.specs.Every.{Every, every-more, every-at, every-weaken}
-use Rattle.sheet.specs.Sheet.{Rule, Onset, Grammar, Playing, Timing, unitIn, barOf, inBar, barUnits}
-use Rattle.sheet.specs.Reading.{byte, two, four, allBelow, bytesFrom, headRefusal, headOf, divisionRefusal, divisionOf, leafRefusal}
-use Rattle.sheet.specs.Reading.{leafOf, ruleRefusal, ruleOf, withRule, playingRefusal, playingOf, timingOf, onsetRefusal, onsetOf}
-use Rattle.sheet.specs.Reading.{withOnset, Progress, nothing, inRules, inOnsets, rulesRefusal, refusal, after, demand}
-use Rattle.sheet.specs.Clock.{unit-mono}
+use Rattle.sheet.specs.Sheet.{Rule, Onset, Grammar, Playing, Timing, barUnits, unitIn, barOf, inBar}
+use Rattle.sheet.specs.Reading.{byte, four, allBelow, bytesFrom, headRefusal, headOf, divisionRefusal, divisionOf, leafRefusal}
+use Rattle.sheet.specs.Reading.{leafOf, ruleRefusal, ruleOf, withRule, playingRefusal, onsetRefusal, onsetOf, withOnset, Progress}
+use Rattle.sheet.specs.Reading.{nothing, inRules, inTaps, inOnsets, rulesRefusal, refusal, afterHead, after, demand}
+use Rattle.sheet.specs.BarLines.{units-up}
 use Rattle.sheet.specs.Good.{Rising, GoodRule, GoodRules}
 use Rattle.sheet.specs.SoFar.{GoodSoFar, GoodProgress}
-use Rattle.sheet.specs.Laws.{length-bytes, demand-zero, cond-zero, head-passed, division-passed, leaf-passed, playing-passed}
-use Rattle.sheet.specs.Laws.{onset-passed}
-
--- the bytes of a line are below 256, and a number of two bytes is below 65,536
-abbrev pub Small : List ℕ → Type 0
-Small l = (i : ℕ) → byte l i < 256
-
-two-small : (l : List ℕ) (i : ℕ) → Small l → two l i ≤ 65535
-unfolding two
-two-small l i h = omega (arith, h i, h (i + 1))
-
-pub line-small : (b : List ℕ) → Every (λ (x : ℕ). x < 256) b → Small b
-line-small b h i = every-at (λ (x : ℕ). x < 256) b i 0 h (omega arith)
+use Rattle.sheet.specs.Laws.{length-bytes, demand-zero, cond-zero, head-passed, division-passed, leaf-passed}
+use Rattle.sheet.specs.PlayingLaws.{onset-passed, tap-line, onset-line}
+use Rattle.sheet.specs.GoodBars.{Small, two-small, good-start, good-tap}
 
 -- the test that all are below q, as a property
 every-below : (q : ℕ) (xs : List ℕ) → allBelow q xs ≡ true → Every (λ (x : ℕ). x < q) xs
@@ -85,26 +75,6 @@ good-leaf : (q n : ℕ) (l : List ℕ) → Small l → leafRefusal q n l ≡ 0 �
 unfolding leafOf
 good-leaf q n l h e = let p = leaf-passed q n l e in record { head = p .head; weight = two-small l 2 h; kind = p .kind }
 
-pub good-start : (l : List ℕ) → playingRefusal l ≡ 0 → GoodSoFar (timingOf l) (playingOf l) 0
-unfolding playingOf timingOf inBar
-good-start l e =
-    let p = playing-passed l e in
-    record {
-      time = record { shortest = p .shortest; longest = p .longest };
-      onsets =
-          record {
-            one = p .one;
-            sixty-four = p .sixty-four;
-            most = omega arith;
-            below = tt;
-            pitches = tt;
-            rising = tt;
-            few = λ b. omega
-                arith;
-          };
-      before = tt;
-    }
-
 -- one onset more in the count of a bar
 pub in-bar-more : (b : ℕ) (os : List Onset) (o : Onset) → inBar b (os ++ (o ∷ [])) ≡ inBar b os + cond (eqb (barOf (o .unit)) b) 1 0
 unfolding inBar
@@ -132,21 +102,21 @@ module _ (timing : Timing) (p : Playing) (last : ℕ) (l : List ℕ) (h : GoodSo
   unfolding onsetOf withOnset
   good-onset e =
       let k = onset-passed timing p last l e in
-      let time = h .time in
-      let lasting : 0 < timing .duration = omega (arith, time .shortest) in
-      let up : unitIn timing last ≤ u = unit-mono (timing .duration) lasting (k .rises) in
+      let m = k .moment in
+      let up : unitIn timing last ≤ u =
+      units-up (p .bars) timing (h .time) last (four l 1) (h .onsets .one) (m .rises) (m .begins) (m .ends) in
       let earlier : Every (λ (x : Onset). x .unit ≤ u) (p .onsets) =
       every-weaken (λ (x : Onset). x .unit ≤ unitIn timing last) (λ (x : Onset). x .unit ≤ u) (λ x m. le-trans m up) (p .onsets)
       (h .before) in
       record {
-        time = time;
+        time = h .time;
         onsets =
             record {
               one = h .onsets .one;
               sixty-four = h .onsets .sixty-four;
               most = rw (length-append (p .onsets) (o ∷ [])) (omega (arith, k .room));
               below =
-                  every-more (λ (x : Onset). x .unit < p .bars * barUnits) (p .onsets) o (h .onsets .below) (k .inside);
+                  every-more (λ (x : Onset). x .unit < p .bars * barUnits) (p .onsets) o (h .onsets .below) (m .inside);
               pitches = every-more (λ (x : Onset). x .pitch ≤ 127) (p .onsets) o (h .onsets .pitches) (k .pitch);
               rising = rising-more 0 (p .onsets) o (h .onsets .rising) (omega arith) earlier;
               few = λ b. few-more b (ℕ-discrete (barOf u) b) (k .few);
@@ -173,10 +143,10 @@ module _ (g : Grammar) (l : List ℕ) (h : Small l) (k : GoodRules g) where
       go false false z = let f : ⊥ = omega arith in absurd f
 
   good-rules-line : (c : Bool) → cond c (demand (ltb 0 n) 3 (playingRefusal l)) (ruleRefusal q n l) ≡ 0
-      → GoodProgress (cond c (inOnsets g (timingOf l) (playingOf l) 0) (inRules (withRule g (ruleOf l))))
+      → GoodProgress (cond c (afterHead g l) (inRules (withRule g (ruleOf l))))
   good-rules-line true z =
       let y = demand-zero (ltb 0 n) 2 (playingRefusal l) z in
-      (k, ltb-true 0 n (y .0), good-start l (y .1))
+      good-start g l k (ltb-true 0 n (y .0)) (y .1)
   good-rules-line false z = good-rule-line z
 
 -- a line that is not refused keeps what has been read good
@@ -184,5 +154,6 @@ pub good-after : (r : Progress) (l : List ℕ) → Small l → GoodProgress r �
 unfolding refusal rulesRefusal after
 good-after nothing l h g e = good-head l h (cond-zero (eqb (byte l 0) 0x47) (headRefusal l) 2 e .1)
 good-after (inRules g) l h k e = good-rules-line g l h k (eqb (byte l 0) 0x45) e
-good-after (inOnsets g timing p last) l h k e =
-    (k .0, k .1, good-onset timing p last l (k .2) (cond-zero (eqb (byte l 0) 0x4E) (onsetRefusal timing p last l) 2 e .1))
+good-after (inTaps g bars taps) l h k e = good-tap bars taps l h (k .2) (tap-line g bars taps l e .1) g (k .0) (k .1)
+good-after (inOnsets g tapped timing p last) l h k e =
+    (k .0, k .1, good-onset timing p last l (k .2) (onset-line g tapped timing p last l e .1))

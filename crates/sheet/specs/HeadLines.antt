@@ -13,11 +13,11 @@ use Rattle.hextext.specs.Text.{first, badFrom, badLine, lines}
 use Rattle.hextext.specs.Written.{pairsOf, lineText}
 use Rattle.hextext.specs.WrittenLaws.{read-back}
 use Rattle.hextext.specs.Formed.{line-formed}
-use Rattle.sheet.specs.Sheet.{TimedSheet}
+use Rattle.sheet.specs.Sheet.{Grammar, Timing, TimedSheet, noPlaying}
 use Rattle.sheet.specs.Multiplier.{grammarWith, withMultiplier}
 use Rattle.sheet.specs.Outcome.{Outcome, refused, accepted, andThen}
-use Rattle.sheet.specs.Reading.{byte, two, headRefusal, headOf, ruleOf, withRule, playingOf, timingOf, Progress, nothing}
-use Rattle.sheet.specs.Reading.{inRules, inOnsets, refusal, after, atEnd, readLines, readSheet}
+use Rattle.sheet.specs.Reading.{byte, two, four, headRefusal, headOf, ruleOf, withRule, playingOf, isTapped, evenOf, Progress}
+use Rattle.sheet.specs.Reading.{nothing, inRules, inTaps, inOnsets, refusal, afterHead, afterTap, after, atEnd, readLines, readSheet}
 use Rattle.sheet.specs.Laws.{read-on, read-stop, too-long, ill-formed, well-formed}
 
 -- what a text means with another multiplier; a refusal stays as it is
@@ -28,38 +28,69 @@ module _ (a : ℕ) where
   abbrev progressWith : Progress → Progress
   progressWith nothing = nothing
   progressWith (inRules g) = inRules (grammarWith a g)
-  progressWith (inOnsets g timing p last) = inOnsets (grammarWith a g) timing p last
+  progressWith (inTaps g bars taps) = inTaps (grammarWith a g) bars taps
+  progressWith (inOnsets g tapped timing p last) = inOnsets (grammarWith a g) tapped timing p last
 
   -- the head has been read
   abbrev Begun : Progress → Type 0
   Begun nothing = ⊥
   Begun (inRules g) = Unit {0}
-  Begun (inOnsets g timing p last) = Unit {0}
+  Begun (inTaps g bars taps) = Unit {0}
+  Begun (inOnsets g tapped timing p last) = Unit {0}
 
   same-refusal : (r : Progress) (l : List ℕ) → refusal (progressWith r) l ≡ refusal r l
   unfolding refusal
   same-refusal nothing l = refl
   same-refusal (inRules g) l = refl
-  same-refusal (inOnsets g timing p last) l = refl
+  same-refusal (inTaps g bars taps) l = refl
+  same-refusal (inOnsets g tapped timing p last) l = refl
 
-  same-after : (r : Progress) (l : List ℕ) → Begun r → (after (progressWith r) l ≡ progressWith (after r l)) × Begun (after r l)
+  -- what has been read behind a line is the same but for a
+  abbrev Same : (with own : Progress) → Type 0
+  Same with own = (with ≡ progressWith own) × Begun own
+
+  same-after-head : (g : Grammar) (l : List ℕ) → Same (afterHead (grammarWith a g) l) (afterHead g l)
+  unfolding afterHead
+  same-after-head g l = go (isTapped l)
+    where
+      go : (c : Bool)
+          → Same (cond c (inTaps (grammarWith a g) (byte l 1) []) (inOnsets (grammarWith a g) false (evenOf l) (playingOf l) 0))
+          (cond c (inTaps g (byte l 1) []) (inOnsets g false (evenOf l) (playingOf l) 0))
+      go true = (refl, tt)
+      go false = (refl, tt)
+
+  same-after-tap : (g : Grammar) (bars : ℕ) (taps : List ℕ) → Same (afterTap (grammarWith a g) bars taps) (afterTap g bars taps)
+  unfolding afterTap
+  same-after-tap g bars taps = go (ltb bars (length taps))
+    where
+      timing : Timing
+      timing = record { barLines = taps }
+
+      go : (c : Bool)
+          → Same (cond c (inOnsets (grammarWith a g) true timing (noPlaying bars) 0) (inTaps (grammarWith a g) bars taps))
+          (cond c (inOnsets g true timing (noPlaying bars) 0) (inTaps g bars taps))
+      go true = (refl, tt)
+      go false = (refl, tt)
+
+  same-after : (r : Progress) (l : List ℕ) → Begun r → Same (after (progressWith r) l) (after r l)
   unfolding after withRule
   same-after nothing l b = absurd b
   same-after (inRules g) l b = go (eqb (byte l 0) 0x45)
     where
       go : (c : Bool)
-          → (cond c (inOnsets (grammarWith a g) (timingOf l) (playingOf l) 0) (inRules (withRule (grammarWith a g) (ruleOf l)))
-          ≡ progressWith (cond c (inOnsets g (timingOf l) (playingOf l) 0) (inRules (withRule g (ruleOf l)))))
-          × Begun (cond c (inOnsets g (timingOf l) (playingOf l) 0) (inRules (withRule g (ruleOf l))))
-      go true = (refl, tt)
+          → Same (cond c (afterHead (grammarWith a g) l) (inRules (withRule (grammarWith a g) (ruleOf l))))
+          (cond c (afterHead g l) (inRules (withRule g (ruleOf l))))
+      go true = same-after-head g l
       go false = (refl, tt)
-  same-after (inOnsets g timing p last) l b = (refl, tt)
+  same-after (inTaps g bars taps) l b = same-after-tap g bars (taps ++ (four l 1 ∷ []))
+  same-after (inOnsets g tapped timing p last) l b = (refl, tt)
 
   same-end : (r : Progress) (n : ℕ) → atEnd (progressWith r) n ≡ meaningWith a (atEnd r n)
   unfolding atEnd
   same-end nothing n = refl
   same-end (inRules g) n = refl
-  same-end (inOnsets g timing p last) n = go (ltb 0 (length (p .onsets)))
+  same-end (inTaps g bars taps) n = refl
+  same-end (inOnsets g tapped timing p last) n = go (ltb 0 (length (p .onsets)))
     where
       go : (c : Bool)
           → cond c (accepted (record { sheet = record { grammar = grammarWith a g; playing = p }; timing = timing })) (refused 3 n)

@@ -16,7 +16,7 @@ use Rattle.sheet.specs.declared.table.GrammarTable.{GrammarTable}
 use Rattle.sheet.specs.declared.table.PlayingTable.{PlayingTable}
 use Rattle.sheet.specs.declared.table.TimingTable.{TimingTable}
 use Rattle.sheet.specs.declared.table.Reading.{Reading}
-use Rattle.sheet.specs.Sheet.{Rule, division, leaf, Onset, Grammar, Playing, Timing, TimedSheet}
+use Rattle.sheet.specs.Sheet.{Rule, division, leaf, Onset, Grammar, Playing, Timing, TimedSheet, noPlaying}
 use Rattle.sheet.specs.Outcome.{Outcome, numberIn, lineIn, valueIn}
 use Rattle.sheet.specs.Reading.{byte, readSheet}
 
@@ -84,16 +84,12 @@ playingTable p =
 abbrev pub noGrammar : Grammar
 noGrammar = record { nonterminals = 0; start = 0; multiplier = 0; rules = [] }
 
--- a playing of some bars and no onsets
-abbrev pub noPlaying : ℕ → Playing
-noPlaying bars = record { bars = bars; onsets = [] }
-
 unfoldable pub timingTable : Timing → TimingTable
-timingTable timing = record { duration = micros (timing .duration) }
+timingTable timing = record { lines = pad 65 (micros 0) (map micros (timing .barLines)) }
 
--- no sheet: no grammar, no bars, no time
+-- no sheet: no grammar, no bars, no bar lines
 abbrev pub noSheet : TimedSheet
-noSheet = record { sheet = record { grammar = noGrammar; playing = noPlaying 0 }; timing = record { duration = 0 } }
+noSheet = record { sheet = record { grammar = noGrammar; playing = noPlaying 0 }; timing = record { barLines = [] } }
 
 -- what reading gives: a refusal with its number and its line, and zeros elsewhere; or number 0, line 0, the timing and the sheet
 unfoldable pub readingOf : Outcome TimedSheet → Reading

@@ -1,19 +1,20 @@
 -- Laws of reading, which proofs cite instead of the definitions' text: what a refusal 0 says of a line, and the steps of `readLines`.
-use Prim.Native.Nat.{ℕ, zero, suc, _+_, _*_, _<_, _≤_}
+use Prim.Native.Nat.{ℕ, zero, suc, _+_, _-_, _*_, _<_, _≤_}
 use mathlib.Core.Path.{_≡_, refl, sym, ap, _∙_}
-use mathlib.Core.Bool.{Bool, true, false, cond}
+use mathlib.Core.Bool.{Bool, true, false, cond, _&&_, false≢true}
 use mathlib.Core.List.{List, [], _∷_}
 use native.Mathlib.Omega.{arith}
 use native.Mathlib.Decide.{decLe}
-use lib.ListN.{length}
+use lib.ListN.{length, getD}
 use lib.Dec.{eqb, leb, ltb}
-use borrow.Author.Tests.{eqb-true, le-leb, lt-leb, le-ltb, lt-ltb, leb-true, ltb-true}
+use borrow.Author.Tests.{eqb-true, ne-eqb, le-leb, lt-leb, le-ltb, lt-ltb, leb-true, ltb-true}
 use Rattle.hextext.specs.Text.{badLine, lines}
-use Rattle.sheet.specs.Sheet.{Grammar, Playing, Timing, TimedSheet, barUnits, unitIn, endOf, barOf, inBar}
+use Rattle.sheet.specs.Sheet.{Grammar, Playing, Timing, TimedSheet, barUnits, lineAt, endOf, unitIn, barOf, inBar}
 use Rattle.sheet.specs.Outcome.{refused, accepted, accepted-not-refused}
 use Rattle.sheet.specs.Reading.{demand, first, byte, four, allBelow, bytesFrom, headRefusal, divisionRefusal, leafRefusal}
-use Rattle.sheet.specs.Reading.{playingRefusal, onsetForm, momentRefusal, roomRefusal, onsetRefusal, Progress, nothing, inRules}
-use Rattle.sheet.specs.Reading.{inOnsets, refusal, after, atEnd, readLines, readFormed, readSheet}
+use Rattle.sheet.specs.Reading.{playingRefusal, isTapped, stepRefusal, tapRefusal, onsetForm, momentRefusal, roomRefusal}
+use Rattle.sheet.specs.Reading.{onsetRefusal, otherRefusal, Progress, nothing, inRules, inTaps, inOnsets, refusal, after, atEnd}
+use Rattle.sheet.specs.Reading.{readLines, readFormed, readSheet}
 
 -- a demand that gives 0 is met, and what comes after it gives 0
 pub demand-zero : (t : Bool) (r k : ℕ) → demand t (suc r) k ≡ 0 → (t ≡ true) × (k ≡ 0)
@@ -100,74 +101,6 @@ leaf-passed q n l e =
     let e₄ = demand-zero (ltb n 64) 7 0 (e₃ .1) in
     record { count = eqb-true _ _ (e₁ .0); head = ltb-true _ _ (e₂ .0); kind = leb-true _ _ (e₃ .0); room = ltb-true _ _ (e₄ .0) }
 
-pub record PlayingPassed (l : List ℕ) : Type 0 where
-  pub one : 1 ≤ byte l 1
-  pub sixty-four : byte l 1 ≤ 64
-  pub shortest : 1000 ≤ four l 2
-  pub longest : four l 2 ≤ 60_000_000
-
-pub playing-passed : (l : List ℕ) → playingRefusal l ≡ 0 → PlayingPassed l
-unfolding playingRefusal
-playing-passed l e =
-    let e₁ = demand-zero (eqb (length l) 6) 3 _ e .1 in
-    let e₂ = demand-zero (leb 1 (byte l 1)) 4 _ e₁ in
-    let e₃ = demand-zero (leb (byte l 1) 64) 4 _ (e₂ .1) in
-    let e₄ = demand-zero (leb 1000 (four l 2)) 4 _ (e₃ .1) in
-    let e₅ = demand-zero (leb (four l 2) 60_000_000) 4 0 (e₄ .1) in
-    record {
-      one = leb-true _ _ (e₂ .0);
-      sixty-four = leb-true _ _ (e₃ .0);
-      shortest = leb-true _ _ (e₄ .0);
-      longest = leb-true _ _ (e₅ .0);
-    }
-
-pub moment-passed : (bars : ℕ) (timing : Timing) (last t : ℕ) → momentRefusal bars timing last t ≡ 0
-    → (last ≤ t) × (t < endOf bars timing) × (unitIn timing t < bars * barUnits)
-unfolding momentRefusal
-moment-passed bars timing last t e =
-    let e₁ = demand-zero (leb last t) 5 _ e in
-    let e₂ = demand-zero (ltb t (endOf bars timing)) 6 _ (e₁ .1) in
-    let e₃ = demand-zero (ltb (unitIn timing t) (bars * barUnits)) 6 0 (e₂ .1) in
-    (leb-true _ _ (e₁ .0), ltb-true _ _ (e₂ .0), ltb-true _ _ (e₃ .0))
-
--- a moment that does not fall, and whose unit is at or past the end
-pub moment-late : (bars : ℕ) (timing : Timing) (last t : ℕ) → last ≤ t → bars * barUnits ≤ unitIn timing t
-    → momentRefusal bars timing last t ≡ 7
-unfolding momentRefusal
-moment-late bars timing last t rises late = go (ltb t (endOf bars timing)) refl
-  where
-    go : (c : Bool) → ltb t (endOf bars timing) ≡ c → momentRefusal bars timing last t ≡ 7
-    go true e = simp (le-leb last t rises, e, le-ltb _ _ late)
-    go false e = simp (le-leb last t rises, e)
-
-pub room-passed : (before here : ℕ) → roomRefusal before here ≡ 0 → (before < 512) × (here < 32)
-unfolding roomRefusal
-room-passed before here e =
-    let e₁ = demand-zero (ltb before 512) 7 _ e in
-    let e₂ = demand-zero (ltb here 32) 7 0 (e₁ .1) in
-    (ltb-true _ _ (e₁ .0), ltb-true _ _ (e₂ .0))
-
-form-passed : (l : List ℕ) → onsetForm l ≡ 0 → byte l 5 ≤ 127
-unfolding onsetForm
-form-passed l e = leb-true _ _ (demand-zero (leb (byte l 5) 127) 4 _ (demand-zero (eqb (length l) 7) 3 _ e .1) .0)
-
-pub record OnsetPassed (timing : Timing) (p : Playing) (last : ℕ) (l : List ℕ) : Type 0 where
-  pub pitch : byte l 5 ≤ 127
-  pub rises : last ≤ four l 1
-  pub inside : unitIn timing (four l 1) < p .bars * barUnits
-  pub room : length (p .onsets) < 512
-  pub few : inBar (barOf (unitIn timing (four l 1))) (p .onsets) < 32
-
-pub onset-passed : (timing : Timing) (p : Playing) (last : ℕ) (l : List ℕ) → onsetRefusal timing p last l ≡ 0
-    → OnsetPassed timing p last l
-unfolding onsetRefusal
-onset-passed timing p last l e =
-    let e₁ = first-zero (onsetForm l) _ e in
-    let e₂ = first-zero (momentRefusal (p .bars) timing last (four l 1)) _ (e₁ .1) in
-    let moment = moment-passed (p .bars) timing last (four l 1) (e₂ .0) in
-    let room = room-passed _ _ (e₂ .1) in
-    record { pitch = form-passed l (e₁ .0); rises = moment .0; inside = moment .2; room = room .0; few = room .1 }
-
 -- a line that is not refused, and one that is
 pub read-on : (r : Progress) (n : ℕ) (b : List ℕ) (ls : List (List ℕ)) → refusal r b ≡ 0
     → readLines r n (b ∷ ls) ≡ readLines (after r b) (n + 1) ls
@@ -180,20 +113,25 @@ unfolding readLines
 read-stop r n b ls zero e f = absurd (f refl)
 read-stop r n b ls (suc k) e f = simp (readLines, sym e)
 
--- the text ends among the rules, before the first onset, after it
+-- the text ends among the rules, among the taps, before the first onset, after it
 pub end-in-rules : (g : Grammar) (n : ℕ) → readLines (inRules g) n [] ≡ refused 3 n
 unfolding readLines atEnd
 end-in-rules g n = refl
 
-pub end-without : (g : Grammar) (timing : Timing) (p : Playing) (last n : ℕ) → length (p .onsets) ≡ 0
-    → readLines (inOnsets g timing p last) n [] ≡ refused 3 n
+pub end-in-taps : (g : Grammar) (bars : ℕ) (taps : List ℕ) (n : ℕ) → readLines (inTaps g bars taps) n [] ≡ refused 17 n
 unfolding readLines atEnd
-end-without g timing p last n e = simp (le-ltb 0 (length (p .onsets)) (omega arith))
+end-in-taps g bars taps n = refl
 
-pub end-with : (g : Grammar) (timing : Timing) (p : Playing) (last n : ℕ) → (length (p .onsets) ≡ 0 → ⊥)
-    → readLines (inOnsets g timing p last) n [] ≡ accepted (record { sheet = record { grammar = g; playing = p }; timing = timing })
-unfolding readLines atEnd
-end-with g timing p last n f = simp (lt-ltb 0 (length (p .onsets)) (omega (arith, f)))
+module _ (g : Grammar) (tapped : Bool) (timing : Timing) (p : Playing) (last n : ℕ) where
+  pub end-without : length (p .onsets) ≡ 0 → readLines (inOnsets g tapped timing p last) n [] ≡ refused 3 n
+  unfolding readLines atEnd
+  end-without e = simp (le-ltb 0 (length (p .onsets)) (omega arith))
+
+  pub end-with : (length (p .onsets) ≡ 0 → ⊥)
+      → readLines (inOnsets g tapped timing p last) n []
+      ≡ accepted (record { sheet = record { grammar = g; playing = p }; timing = timing })
+  unfolding readLines atEnd
+  end-with f = simp (lt-ltb 0 (length (p .onsets)) (omega (arith, f)))
 
 -- refusals 1 and 2
 module _ (t : List ℕ) where

@@ -3,11 +3,16 @@ pub mod Outcome
 pub mod Reading
 pub mod Clock
 pub mod Nearest
+pub mod BarLines
+pub mod EvenLines
 pub mod Held
 pub mod Children
 pub mod Good
 pub mod SoFar
 pub mod Laws
+pub mod PlayingLaws
+pub mod TapRefusals
+pub mod GoodBars
 pub mod GoodLines
 pub mod GoodLaws
 pub mod Bounds
@@ -22,6 +27,8 @@ pub mod Literal
 pub mod Cases
 pub mod LineCases
 pub mod UnitCases
+pub mod TapCases
 pub mod OnsetLines
 pub mod UnitsRead
 pub mod Refuted
+pub mod Twin

@@ -24,6 +24,17 @@ pub type Children = [u8; CHILD_CELLS];
 // The most bars of a playing.
 pub const BARS_MOST: usize = 64;
 
+// The most bar lines of a playing: one begins each bar, and one more closes the last.
+pub const BAR_LINES_MOST: usize = BARS_MOST + 1;
+
+// The moments of bar lines where they are lent, in microseconds: a reference to an array of structs is not covered.
+pub type BarLines = [u32; BAR_LINES_MOST];
+
+// The shortest bar and the longest, in microseconds.
+pub const BAR_SHORTEST: u32 = 1000;
+
+pub const BAR_LONGEST: u32 = 60000000;
+
 // The most onsets of a playing.
 pub const ONSETS_MOST: usize = 512;
 

@@ -1,6 +1,7 @@
 // A sheet as the code holds it.
 use crate::clock::Micros;
 use crate::clock::Units;
+use crate::limits::BAR_LINES_MOST;
 use crate::limits::Children;
 use crate::limits::ONSETS_MOST;
 use crate::limits::Pitches;
@@ -35,9 +36,10 @@ pub struct PlayingTable {
     pub pitches: Pitches,
 }
 
-// The real time of a playing: one bar's duration. It stands beside the sheet, which has musical time alone.
+// The real time of a playing: the moments of its bar lines from the front, one more than it has bars; places left are zero. It stands
+// beside the sheet, which has musical time alone.
 pub struct TimingTable {
-    pub duration: Micros,
+    pub lines: [Micros; BAR_LINES_MOST],
 }
 
 // What reading gives: a refusal with its number and its line, and zeros elsewhere; or number 0, line 0, the timing and the sheet.

@@ -3,35 +3,37 @@
 use borrow.Author.Needs.{needs}
 use native.Mathlib.Omega.{arith}
 use Prim.Native.Nat.{_-_, _<_}
-use mathlib.Core.Path.{refl, sym}
-use native.Mathlib.Nat.{le-trans, le-of-eq}
+use mathlib.Core.Path.{refl}
 use lib.ListN.{length}
 use Rattle.hextext.specs.Laws.{line-falls}
 use Rattle.hextext.specs.PackedLaws.{line-next}
-use Rattle.sheet.specs.Held.{timingTable}
-use Rattle.playing.specs.Contracts.{timingIn}
-use Rattle.playing.proofs.OnsetLoop.{OnsetsSoFar, onsets-none, onsets-bad, onsets-stop, onsets-room, onsets-more, onsets-missing}
-use Rattle.playing.proofs.OnsetLoop.{onsets-done, take-refused}
+use Rattle.playing.specs.Contracts.{OnsetsSoFar}
+use Rattle.playing.proofs.OnsetLoop.{onsets-none, latest-in, onsets-bad, onsets-stop, onsets-room, onsets-more, onsets-missing}
+use Rattle.playing.proofs.OnsetLoop.{take-done, take-refused}
 use Rattle.playing.proofs.read_onsets.Statement.{statement}
 use Rattle.playing.proofs.read_onsets.Tie as tie
 
 abbrev Inv-loop : tie.InvT-loop
-Inv-loop digits text at line bars timing playing₀ latest₀ at₀ line₀ n₀ playing latest at' line' n = OnsetsSoFar text at line bars
-    (timingIn timing) playing latest at' line' n
+Inv-loop digits text at line clock lines playing₀ latest₀ at₀ line₀ n₀ playing latest at' line' n = OnsetsSoFar text at line
+    clock lines playing latest at' line' n
 
 abbrev μ-loop : tie.MeasureT-loop
-μ-loop digits text at line bars timing playing₀ latest₀ at₀ line₀ n₀ playing latest at' line' n = length text - at'
+μ-loop digits text at line clock lines playing₀ latest₀ at₀ line₀ n₀ playing latest at' line' n = length text - at'
 
 no-onsets-requires : tie.Need-no-onsets-requires Inv-loop μ-loop
 no-onsets-requires c κs = search needs
 
+none-before-requires : tie.Need-none-before-requires Inv-loop μ-loop
+none-before-requires c κs = search needs
+
 loop-holds : tie.Need-loop-holds Inv-loop μ-loop
 loop-holds c =
-    let pre = c .before .before .pre in
-    onsets-none _ _ _ _ _ _ (pre .1) (pre .2) (pre .3) (pre .4) (c .no-onsets .ensures)
+    let at-onsets = c .before in
+    let pre = at-onsets .before .before .pre in
+    onsets-none _ _ _ _ _ _ _ (pre .1) (pre .2) (pre .3) (pre .4) (at-onsets .no-onsets .ensures) (c .none-before .ensures)
 
-seven-at-requires : tie.Need-seven-at-requires Inv-loop μ-loop
-seven-at-requires c κs = search needs
+line-at-requires : tie.Need-line-at-requires Inv-loop μ-loop
+line-at-requires c κs = search needs
 
 refused-take-requires : tie.Need-refused-take-requires Inv-loop μ-loop
 refused-take-requires c κs = search needs
@@ -42,18 +44,12 @@ returns c g =
     let at-line = at-if1 .before .before in
     let loop = at-line .before .before .loop in
     take-refused _ (c .refused-take .ensures) (λ z. omega arith) (loop .inv .line)
-    (onsets-bad (loop .inv) (search needs) _ (at-line .seven-at .ensures) g (at-if1 .if1 .taken) 2)
+    (onsets-bad (loop .inv) (search needs) _ (at-line .line-at .ensures) g (at-if1 .if1 .taken) 2)
 
 onset-step-requires : tie.Need-onset-step-requires Inv-loop μ-loop
 onset-step-requires c κs =
-    let at-line = c .before .before in
-    let so = at-line .before .before .loop .inv in
-    let good = so .good in
-    record {
-      one = le-trans (good .onsets .one) (le-of-eq (sym (so .bars-are)));
-      sixty-four = le-trans (le-of-eq (so .bars-are)) (good .onsets .sixty-four);
-      time = good .time;
-    }
+    let loop = c .before .before .before .before .loop in
+    (c .before .before .before .before .before .before .before .before .pre .4, latest-in (loop .inv))
 
 refused-take-requires-2 : tie.Need-refused-take-requires-2 Inv-loop μ-loop
 refused-take-requires-2 c κs = search needs
@@ -66,11 +62,11 @@ returns-2 c g =
     let at-line = at-if1 .before .before in
     let loop = at-line .before .before .loop in
     take-refused _ (c .refused-take2 .ensures) (at-if2 .if2 .taken) (loop .inv .line)
-    (onsets-stop (loop .inv) (search needs) _ (at-line .seven-at .ensures) (at-if1 .if1 .left) (at-step .onset-step .result)
+    (onsets-stop (loop .inv) (search needs) _ (at-line .line-at .ensures) (at-if1 .if1 .left) (at-step .onset-step .result)
     (at-step .onset-step .ensures) g (at-if2 .if2 .taken))
 
 -- a line's number is at most its place and one
-few-lines : (c : tie.After-seven-at Inv-loop μ-loop) → c .before .before .loop .line < 18446744073709551615
+few-lines : (c : tie.After-line-at Inv-loop μ-loop) → c .before .before .loop .line < 18446744073709551615
 few-lines c = omega (arith, c .before .before .loop .inv .line)
 
 -- where a line is taken as an onset there is room for it
@@ -80,7 +76,7 @@ room c =
     let at-if1 = at-step .before in
     let at-line = at-if1 .before .before in
     let loop = at-line .before .before .loop in
-    onsets-room (loop .inv) (search needs) _ (at-line .seven-at .ensures) (at-if1 .if1 .left) (at-step .onset-step .result)
+    onsets-room (loop .inv) (search needs) _ (at-line .line-at .ensures) (at-if1 .if1 .left) (at-step .onset-step .result)
     (at-step .onset-step .ensures) (c .if2 .left)
 
 mul-u : tie.Need-mul-u Inv-loop μ-loop
@@ -114,7 +110,7 @@ loop-less c =
     let at-if1 = at-step .before in
     let at-line = at-if1 .before .before in
     let loop = at-line .before .before .loop in
-    line-falls _ _ (search needs) _ (line-next _ _ _ (at-line .seven-at .ensures) (at-if1 .if1 .left))
+    line-falls _ _ (search needs) _ (line-next _ _ _ (at-line .line-at .ensures) (at-if1 .if1 .left))
 
 loop-again : tie.Need-loop-again Inv-loop μ-loop
 loop-again c =
@@ -123,7 +119,7 @@ loop-again c =
     let at-if1 = at-step .before in
     let at-line = at-if1 .before .before in
     let loop = at-line .before .before .loop in
-    onsets-more (loop .inv) (search needs) _ (at-line .seven-at .ensures) (at-if1 .if1 .left) (at-step .onset-step .result)
+    onsets-more (loop .inv) (search needs) _ (at-line .line-at .ensures) (at-if1 .if1 .left) (at-step .onset-step .result)
     (at-step .onset-step .ensures) (at-if2 .if2 .left) _ (c .before .byte-at .ensures) _ refl
 
 refused-take-requires-3 : tie.Need-refused-take-requires-3 Inv-loop μ-loop
@@ -136,22 +132,13 @@ returns-3 c g =
     take-refused _ (c .refused-take3 .ensures) (λ z. omega arith) (loop .inv .line)
     (onsets-missing (loop .inv) (search needs) g (at-if3 .if3 .taken))
 
+timing-table-requires : tie.Need-timing-table-requires Inv-loop μ-loop
+timing-table-requires c κs = c .before .before .before .before .before .before .pre .4 .lines
+
 returns-4 : tie.Need-returns-4 Inv-loop μ-loop
-unfolding timingTable
 returns-4 c g =
-    let so = c .before .before .loop .inv in
-    record {
-      stop = λ f. absurd (f refl);
-      place = λ f. absurd (f refl);
-      done = λ z.
-          record {
-            playing = so .playing;
-            timing = timingIn _;
-            table = so .table-is;
-            timing-table = refl;
-            sheet = onsets-done so (search needs) g (c .if3 .left);
-          };
-    }
+    let at-if3 = c .before in
+    take-done (at-if3 .before .before .loop .inv) (search needs) g (at-if3 .if3 .left) _ refl refl (c .timing-table .ensures)
 
 pub read-onsets-spec : {M : Type 1} → statement M
 read-onsets-spec =
@@ -160,8 +147,9 @@ read-onsets-spec =
     Inv-loop
     μ-loop
     no-onsets-requires
+    none-before-requires
     loop-holds
-    seven-at-requires
+    line-at-requires
     refused-take-requires
     returns
     onset-step-requires
@@ -177,4 +165,5 @@ read-onsets-spec =
     loop-again
     refused-take-requires-3
     returns-3
+    timing-table-requires
     returns-4)

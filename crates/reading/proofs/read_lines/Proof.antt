@@ -12,7 +12,8 @@ use Rattle.sheet.specs.Reading.{headOf, headRefusal, nothing, inRules}
 use Rattle.sheet.specs.Rest.{readRest}
 use Rattle.sheet.specs.Held.{readingOf}
 use Rattle.grammar.specs.Contracts.{RulesRead, RulesDone}
-use Rattle.playing.specs.Contracts.{TakeRead}
+use Rattle.playing.specs.declared.Take.{Take}
+use Rattle.playing.specs.Contracts.{PlayingRead, TakeRead}
 use Rattle.reading.proofs.FirstLine.{first-bad, first-held, first-other, first-refused, first-good, first-on}
 use borrow.Author.Needs.{needs}
 use Rattle.reading.proofs.read_lines.Statement.{statement}
@@ -65,21 +66,41 @@ rest c =
 -- ---- where the playing has been read
 
 -- where the rules have been read, and that they are
-abbrev rules-place : tie.After-read-playing → tie.After-read-rules
+abbrev rules-place : tie.After-even-playing → tie.After-read-rules
 rules-place c = c .before .before
 
-done : (c : tie.After-read-playing)
+done : (c : tie.After-even-playing)
     → RulesDone (text-of (rules-place c)) (line-place (rules-place c) .line-at .result .next) 2 (headOf (bytes-of (rules-place c)))
     (rules-place c .read-rules .result)
 done c = rules (rules-place c) .done (c .before .if4 .left)
 
--- the playing is read behind them
-take : (c : tie.After-read-playing)
-    → TakeRead (text-of (rules-place c)) (readRest nothing 1 (text-of (rules-place c))) (done c .grammar) (c .read-playing .result)
-take c =
-    let d = done c in
-    let r = c .read-playing .ensures (d .grammar) (d .good) (d .some-rule) (d .kind) in
-    rw (rest (rules-place c) ∙ d .rest) r
+-- a playing that is read behind them is what the text comes to
+abbrev TakenAs : tie.After-even-playing → Take → Type 0
+TakenAs c r = TakeRead (text-of (rules-place c)) (readRest nothing 1 (text-of (rules-place c))) (done c .grammar) r
+
+take-at : (c : tie.After-even-playing) (r : Take)
+    → PlayingRead (text-of (rules-place c)) (rules-place c .read-rules .result .at) (rules-place c .read-rules .result .line)
+    (rules-place c .read-rules .result .end) (done c .grammar) r → TakenAs c r
+take-at c r h = let d = done c in rw (rest (rules-place c) ∙ d .rest) (h (d .good) (d .some-rule) (d .kind))
+
+take : (c : tie.After-read-playing) → TakenAs (c .before .before) (c .read-playing .result)
+take c = take-at (c .before .before) _ (c .read-playing .ensures (done (c .before .before) .grammar))
+
+-- the reading of a playing that is not refused
+reading-of : (c : tie.After-even-playing) (r : Take) → TakenAs c r → r .number ≡ 0
+    → record {
+      number = 0;
+      line = 0;
+      timing = r .timing;
+      grammar = rules-place c .read-rules .result .grammar;
+      playing = r .playing;
+    }
+    ≡ readingOf (readRest nothing 1 (text-of (rules-place c)))
+unfolding readingOf
+reading-of c r h z =
+    let t = h .done z in
+    (λ j. record { number = 0; line = 0; timing = t .timing-table j; grammar = done c .table j; playing = t .table j })
+    ∙ ap readingOf (sym (t .sheet))
 
 line-at-requires : tie.Need-line-at-requires
 line-at-requires c κs = search needs
@@ -152,30 +173,43 @@ returns-4 c =
     let at-rules = c .before .before in
     c .stopped-at4 .ensures ∙ ap readingOf (sym (rest at-rules ∙ rules at-rules .stop (c .before .if4 .taken)))
 
-read-playing-requires : tie.Need-read-playing-requires
-read-playing-requires c κs =
+even-playing-requires : tie.Need-even-playing-requires
+even-playing-requires c κs =
     let at-rules = c .before in
     let d = rules at-rules .done (c .if4 .left) in
-    (line-place at-rules .before .before .pre .0, d .inside, d .line, d .numbered, d .end, d .filled)
+    (line-place at-rules .before .before .pre .0, d .inside, d .end, d .filled)
+
+-- bars of one duration, and each line behind the `45` line adds an onset
+returns-5 : tie.Need-returns-5
+returns-5 c =
+    let at-if5 = c .before .before .before in
+    let at-even = at-if5 .before in
+    let z = at-if5 .if5 .taken in
+    let d = done at-even in
+    reading-of at-even (at-even .even-playing .result)
+    (take-at at-even _ (at-even .even-playing .ensures z _ (d .line) (d .numbered) (d .grammar))) z
+
+read-playing-requires : tie.Need-read-playing-requires
+read-playing-requires c κs =
+    let at-even = c .before in
+    let d = done at-even in
+    (line-place (rules-place at-even) .before .before .pre .0, d .inside, d .line, d .numbered, d .end, d .filled)
 
 stopped-at-requires-5 : tie.Need-stopped-at-requires-5
 stopped-at-requires-5 c κs =
     let at-playing = c .before in
-    (line-place (rules-place at-playing) .before .before .pre .0, take at-playing .place (c .if5 .taken))
-
-returns-5 : tie.Need-returns-5
-returns-5 c =
-    let at-playing = c .before .before in
-    c .stopped-at5 .ensures ∙ ap readingOf (sym (take at-playing .stop (c .before .if5 .taken)))
+    (line-place (rules-place (at-playing .before .before)) .before .before .pre .0, take at-playing .place (c .if6 .taken))
 
 returns-6 : tie.Need-returns-6
-unfolding readingOf
 returns-6 c =
-    let at-if5 = c .before .before .before in
-    let at-playing = at-if5 .before in
-    let t = take at-playing .done (at-if5 .if5 .left) in
-    (λ j. record { number = 0; line = 0; timing = t .timing-table j; grammar = done at-playing .table j; playing = t .table j })
-    ∙ ap readingOf (sym (t .sheet))
+    let at-playing = c .before .before in
+    c .stopped-at5 .ensures ∙ ap readingOf (sym (take at-playing .stop (c .before .if6 .taken)))
+
+returns-7 : tie.Need-returns-7
+returns-7 c =
+    let at-if6 = c .before .before .before in
+    let at-playing = at-if6 .before in
+    reading-of (at-playing .before .before) (at-playing .read-playing .result) (take at-playing) (at-if6 .if6 .left)
 
 pub read-lines-spec : {M : Type 1} → statement M
 read-lines-spec =
@@ -193,7 +227,9 @@ read-lines-spec =
     read-rules-requires
     stopped-at-requires-4
     returns-4
+    even-playing-requires
+    returns-5
     read-playing-requires
     stopped-at-requires-5
-    returns-5
-    returns-6)
+    returns-6
+    returns-7)

@@ -4,7 +4,7 @@ use borrow.Author.Needs.{needs}
 use native.Mathlib.Omega.{arith}
 use native.Mathlib.Nat.{div-lt-iff-lt-mul, mod-lt, div-add-mod'}
 use Prim.Native.Nat.{ℕ, _+_, _*_, _/_, _%_, _≤_, _<_}
-use mathlib.Core.Path.{_≡_}
+use mathlib.Core.Path.{_≡_, sym}
 use Rattle.sheet.specs.Sheet.{barUnits, unitOf}
 use Rattle.sheet.specs.Nearest.{rounded-unit}
 use Rattle.sheet.proofs.clock.unit_of.Statement.{statement}
@@ -34,17 +34,33 @@ module _ (t d : ℕ) (lasts : 0 < d) where
   up h = rounded-unit d t (passed + 1) lasts (record { least = omega (arith, whole, h); below = omega (arith, whole, short) })
 
 -- a call: its moment, its duration, and that a bar lasts
-abbrev moment : tie.Start → ℕ
-moment s = s .args .t .0
+abbrev start-of : tie.After-struct-known2 → tie.Start
+start-of c = c .before .before .before
 
-abbrev lasting : tie.Start → ℕ
-lasting s = s .args .duration .0
+abbrev moment : tie.After-struct-known2 → ℕ
+moment c = start-of c .args .t .0
 
-lasts-at : (s : tie.Start) → 0 < lasting s
-lasts-at s = s .pre .0
+abbrev lasting : tie.After-struct-known2 → ℕ
+lasting c = start-of c .args .duration .0
 
-few-at : (s : tie.Start) → moment s * barUnits / lasting s < 1290241
-few-at s = few (moment s) (lasting s) (lasts-at s) (s .pre .1)
+lasts-at : (c : tie.After-struct-known2) → 0 < lasting c
+lasts-at c = let some = c .before .if1 .left in omega (arith, some)
+
+few-at : (c : tie.After-struct-known2) → moment c * barUnits / lasting c < 1290241
+few-at c = few (moment c) (lasting c) (lasts-at c) (start-of c .pre)
+
+-- the unit of bars that do not last
+none : (t d : ℕ) → d ≡ 0 → t ≤ 64 * d → 0 ≡ unitOf d t
+unfolding unitOf
+none t d z h =
+    let no-time : t ≡ 0 = omega (arith, z, h) in
+    λ j. (2 * (sym no-time j * barUnits) + sym z j) / (2 * sym z j)
+
+cast-d : tie.Need-cast-d
+cast-d c = search needs
+
+returns : tie.Need-returns
+returns c = let s = c .before .before in none (s .args .t .0) (s .args .duration .0) (c .if1 .taken) (s .pre)
 
 cast-n : tie.Need-cast-n
 cast-n c = search needs
@@ -55,34 +71,44 @@ cast-n-2 c = search needs
 mul-n : tie.Need-mul-n
 mul-n c = search needs
 
-cast-d : tie.Need-cast-d
-cast-d c = search needs
-
 div-below : tie.Need-div-below
 div-below c = search needs
 
 rem-over : tie.Need-rem-over
 rem-over c = search needs
 
-mul-if1 : tie.Need-mul-if1
-mul-if1 c = let s = c .before .before in let h = short (moment s) (lasting s) (lasts-at s) in record { fits = omega (arith, h) }
+mul-if2 : tie.Need-mul-if2
+mul-if2 c = let h = short (moment c) (lasting c) (lasts-at c) in record { fits = omega (arith, h) }
 
 cast-t10 : tie.Need-cast-t10
-cast-t10 c = let h = few-at (c .before .before .before) in record { fits = omega (arith, h) }
-
-returns : tie.Need-returns
-returns c = let s = c .before .before .before in down (moment s) (lasting s) (lasts-at s) (c .if1 .taken)
-
-add-t8 : tie.Need-add-t8
-add-t8 c = let h = few-at (c .before .before .before) in record { fits = omega (arith, h) }
-
-cast-t11 : tie.Need-cast-t11
-cast-t11 c = let h = few-at (c .before .before .before) in record { fits = omega (arith, h) }
+cast-t10 c = let h = few-at (c .before) in record { fits = omega (arith, h) }
 
 returns-2 : tie.Need-returns-2
-returns-2 c = let s = c .before .before .before in up (moment s) (lasting s) (lasts-at s) (c .if1 .left)
+returns-2 c = down (moment (c .before)) (lasting (c .before)) (lasts-at (c .before)) (c .if2 .taken)
+
+add-t9 : tie.Need-add-t9
+add-t9 c = let h = few-at (c .before) in record { fits = omega (arith, h) }
+
+cast-t11 : tie.Need-cast-t11
+cast-t11 c = let h = few-at (c .before) in record { fits = omega (arith, h) }
+
+returns-3 : tie.Need-returns-3
+returns-3 c = up (moment (c .before)) (lasting (c .before)) (lasts-at (c .before)) (c .if2 .left)
 
 pub unit-of-spec : {M : Type 1} → statement M
 unit-of-spec =
     tie.close
-    (tie.spec cast-n cast-n-2 mul-n cast-d div-below rem-over mul-if1 cast-t10 returns add-t8 cast-t11 returns-2)
+    (tie.spec
+    cast-d
+    returns
+    cast-n
+    cast-n-2
+    mul-n
+    div-below
+    rem-over
+    mul-if2
+    cast-t10
+    returns-2
+    add-t9
+    cast-t11
+    returns-3)

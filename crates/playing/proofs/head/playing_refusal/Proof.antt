@@ -2,8 +2,8 @@
 use Rattle.sheet.specs.Reading.{playingRefusal}
 use Rattle.sheet.specs.Demands.{demands}
 use borrow.Author.Needs.{needs}
-use Rattle.playing.proofs.playing_refusal.Statement.{statement}
-use Rattle.playing.proofs.playing_refusal.Tie as tie
+use Rattle.playing.proofs.head.playing_refusal.Statement.{statement}
+use Rattle.playing.proofs.head.playing_refusal.Tie as tie
 
 returns : tie.Need-returns
 unfolding playingRefusal
@@ -47,9 +47,16 @@ returns-5 c b h =
 returns-6 : tie.Need-returns-6
 unfolding playingRefusal
 returns-6 c b h =
-    let at-four = c .before .before in
+    let at-four = c .before .before .before in
     let at-bars = at-four .before .before .before in
-    rw (← h .count, ← at-bars .byte-at .ensures b h, ← at-four .four-at .ensures b h) (search demands depth 10)
+    rw (← h .count, ← at-bars .byte-at .ensures b h, ← at-four .four-at .ensures b h) (search demands depth 12)
+
+returns-7 : tie.Need-returns-7
+unfolding playingRefusal
+returns-7 c b h =
+    let at-four = c .before .before .before in
+    let at-bars = at-four .before .before .before in
+    rw (← h .count, ← at-bars .byte-at .ensures b h, ← at-four .four-at .ensures b h) (search demands depth 12)
 
 pub playing-refusal-spec : {M : Type 1} → statement M
 playing-refusal-spec =
@@ -63,4 +70,5 @@ playing-refusal-spec =
     four-at-requires
     returns-4
     returns-5
-    returns-6)
+    returns-6
+    returns-7)
