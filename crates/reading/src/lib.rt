@@ -1,17 +1,19 @@
 // Reading a sheet: a text is refused, by numbers 1 to 8 and 17 to 19, or means a grammar, bar lines, and a playing in units.
 ghost use mathlib.Core.Path.{_≡_};
-ghost use Prim.Native.Nat.{_+_, _<_, _≤_};
+ghost use mathlib.Core.List.{List};
+ghost use Prim.Native.Nat.{ℕ, _+_, _<_, _≤_};
 ghost use lib.ListN.{length, drop};
 ghost use Rattle.hextext.specs.Packed.{DigitTable};
 ghost use Rattle.sheet.specs.Outcome.{refused};
-ghost use Rattle.sheet.specs.Reading.{nothing};
+ghost use Rattle.sheet.specs.Reading.{nothing, refusal};
 ghost use Rattle.sheet.specs.Rest.{readRest, stopped};
-ghost use Rattle.sheet.specs.Held.{readingOf, Reads};
+ghost use Rattle.sheet.specs.Held.{LineHeld, readingOf, Reads};
 use grammar::head_of;
 use grammar::head_refusal;
 use grammar::no_grammar;
 use grammar::read_rules;
 use hextext::Digits;
+use hextext::Line;
 use hextext::bad_from;
 use hextext::digit_table;
 use hextext::line_at;
@@ -49,19 +51,28 @@ fn stopped_at(digits: &Digits, text: &[u8], at: usize, line: usize, number: u8) 
     refused_at(number, line)
 }
 
+// The refusal of a text's first line, which has no bytes where it is a bad one; 0: none.
+fn first_refusal(l: Line) -> u8
+    ensures { λ r. ⌜
+        (l .count ≡ 0 → r ≡ 2) × ((l .count ≡ 0 → ⊥) → (b : List ℕ) → LineHeld l b → r ≡ refusal nothing b)
+        ⌝ }
+{
+    if l.count == 0 {
+        return 2;
+    }
+    if l.kind != 0x47 {
+        return 3;
+    }
+    head_refusal(l)
+}
+
 // The lines of a text, one after another.
 fn read_lines(digits: &Digits, text: &[u8]) -> Reading
     requires { ⌜ DigitTable (now digits) × (0 < length (now text)) ⌝ }
     ensures { λ r. ⌜ r ≡ readingOf (readRest nothing 1 (now (text .entry))) ⌝ }
 {
     let head = line_at(digits, text, 0);
-    if head.count == 0 {
-        return stopped_at(digits, text, 0, 1, 2);
-    }
-    if head.kind != 0x47 {
-        return stopped_at(digits, text, 0, 1, 3);
-    }
-    let head_number = head_refusal(head);
+    let head_number = first_refusal(head);
     if head_number != 0 {
         return stopped_at(digits, text, 0, 1, head_number);
     }
@@ -72,8 +83,7 @@ fn read_lines(digits: &Digits, text: &[u8]) -> Reading
     }
     // Most sheets are read by this loop. Both ways end in a reading of their own: joined, they would be copied.
     let even = even_playing(digits, text, rules.at, rules.end);
-    let even_number = even.number;
-    if even_number == 0 {
+    if even.number == 0 {
         let grammar = rules.grammar;
         let timing = even.timing;
         let playing = even.playing;
