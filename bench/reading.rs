@@ -17,7 +17,7 @@ const ALL_ONSETS_EVERY: usize = 8;
 /// Gives whether no difference was found, and every outcome and everything that is
 /// counted of rounding and of taps occurred.
 pub fn run(seed: u64, texts: usize) -> bool {
-    println!("Comparing fixed of the library and the peer on {texts} texts, seed {seed}.");
+    println!("Comparing readings of the library and the peer on {texts} texts, seed {seed}.");
     let Some(counts) = compare_all(seed, texts) else {
         return false;
     };
