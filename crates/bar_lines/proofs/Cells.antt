@@ -10,7 +10,6 @@ use lib.Seq.{getD-take, length-take-le, ext-getD}
 use Rattle.slices.specs.Filled.{Filled}
 use Rattle.sheet.specs.Sheet.{Timing, barUnits, unitOf, lineAt, lasting, endOf, unitWithin, unitIn, evenLines}
 use Rattle.sheet.specs.Clock.{firstPastEnd}
-use Rattle.sheet.specs.Good.{GoodTiming}
 use Rattle.sheet.specs.BarLines.{rises, lines-up, share-most, unit-at}
 use Rattle.sheet.specs.EvenLines.{even-count, even-at}
 use Rattle.bar_lines.specs.declared.clock.Clock.{Clock}

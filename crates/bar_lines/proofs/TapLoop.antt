@@ -1,16 +1,14 @@
 -- The loop over the taps: what holds where some have been read, how a line keeps it, and how it ends. Assumes nothing.
 use Prim.Native.Nat.{ℕ, _+_, _-_, _<_, _≤_}
 use mathlib.Core.Path.{_≡_, refl, sym, ap, subst, _∙_}
-use mathlib.Core.Bool.{Bool, true, false, cond}
+use mathlib.Core.Bool.{Bool, true}
 use mathlib.Core.List.{List, [], _∷_, _++_}
 use native.Mathlib.Nat.{le-trans, le-of-eq}
 use native.Mathlib.Omega.{arith}
 use lib.ListN.{length, getD, take, drop, set, length-append}
 use lib.Seq.{getD-at, take-at}
-use lib.Dec.{ltb, eqb}
 use borrow.Author.Tests.{eq-eqb, ne-eqb, lt-ltb, le-ltb}
-use Rattle.slices.specs.Every.{every-at}
-use Rattle.slices.specs.Pad.{pad, pad-nil, pad-more, pad-append}
+use Rattle.slices.specs.Pad.{pad, pad-more, pad-append}
 use Rattle.hextext.specs.declared.line.Line.{Line}
 use Rattle.hextext.specs.Text.{lineBytes}
 use Rattle.hextext.specs.Packed.{lineRead}

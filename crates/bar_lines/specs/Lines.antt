@@ -6,7 +6,7 @@ use mathlib.Core.List.{List, []}
 use mathlib.Core.Logic.{_⊎_}
 use lib.ListN.{length, getD, take, drop}
 use lib.Dec.{eqb}
-use Rattle.sheet.specs.Sheet.{Grammar, Timing, TimedSheet, noPlaying, lineAt, endOf, unitIn, evenLines}
+use Rattle.sheet.specs.Sheet.{Grammar, Timing, TimedSheet, noPlaying, lineAt, endOf, evenLines}
 use Rattle.sheet.specs.Outcome.{Outcome}
 use Rattle.sheet.specs.Reading.{Progress, inTaps, inOnsets, refusal}
 use Rattle.sheet.specs.Rest.{readRest, stopped}

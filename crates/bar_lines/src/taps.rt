@@ -4,7 +4,6 @@ ghost use mathlib.Core.List.{List};
 ghost use Prim.Native.Nat.{ℕ, _+_, _≤_, _<_};
 ghost use lib.ListN.{length};
 ghost use Rattle.hextext.specs.Packed.{DigitTable};
-ghost use Rattle.sheet.specs.Sheet.{Grammar};
 ghost use Rattle.sheet.specs.Reading.{stepRefusal};
 ghost use Rattle.sheet.specs.Held.{LineHeld};
 ghost use Rattle.bar_lines.specs.Lines.{TapRefused, TapsRead, NextRead};

@@ -17,10 +17,9 @@ use Rattle.playing.specs.declared.onset.OnsetStep.{OnsetStep}
 use Rattle.playing.specs.declared.Take.{Take}
 use Rattle.sheet.specs.Sheet.{Grammar, Playing, Timing, TimedSheet, noPlaying, unitIn, barOf, inBar}
 use Rattle.sheet.specs.Outcome.{Outcome, accepted}
-use Rattle.sheet.specs.Reading.{byte, four, onsetRefusal, onsetOf, withOnset, inOnsets, refusal, after}
+use Rattle.sheet.specs.Reading.{byte, four, onsetRefusal, onsetOf, withOnset, inOnsets, after}
 use Rattle.sheet.specs.Rest.{readRest, stopped, rest-end, rest-past, rest-bad, rest-stop, rest-held, rest-on}
 use Rattle.sheet.specs.Held.{LineHeld, units, playingTable, timingTable, noGrammar, micros}
-use Rattle.sheet.specs.SoFar.{GoodSoFar}
 use Rattle.sheet.specs.BarLines.{first-bar, rises}
 use Rattle.sheet.specs.Laws.{end-without, end-with}
 use Rattle.sheet.specs.PlayingLaws.{onset-passed, onset-line}
@@ -28,7 +27,7 @@ use Rattle.sheet.specs.GoodBars.{good-none}
 use Rattle.sheet.specs.GoodLines.{good-onset}
 use Rattle.bar_lines.specs.declared.clock.Clock.{Clock}
 use Rattle.bar_lines.specs.Lines.{ClockOf}
-use Rattle.playing.specs.Contracts.{timingIn, tappedIn, latestOf, LatestIn, OnsetsSoFar, OnsetStepped, OnsetStepOf, TakeRead}
+use Rattle.playing.specs.Contracts.{timingIn, tappedIn, LatestIn, OnsetsSoFar, OnsetStepped, OnsetStepOf, TakeRead}
 use Rattle.playing.proofs.Tables.{onset-stored}
 
 -- none yet

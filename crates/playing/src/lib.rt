@@ -1,6 +1,5 @@
 // The playing of a sheet: the `45` line, and the `4E` lines behind it.
 ghost use mathlib.Core.Path.{_≡_};
-ghost use mathlib.Core.List.{List};
 ghost use Prim.Native.Nat.{ℕ, _+_, _≤_, _<_};
 ghost use lib.ListN.{length};
 ghost use Rattle.hextext.specs.Packed.{DigitTable, lineRead};

@@ -1,10 +1,10 @@
 -- Laws of bar lines: the bar of a moment is where its line is not after it and the next one is (`bar-at`, `bar-of`); units rise with
 -- moments (`unit-in-mono`), and reach the end half a unit before the last line (`end-reached`, `end-not-reached`).
-use Prim.Native.Nat.{ℕ, zero, suc, _+_, _-_, _*_, _/_, _≤_, _<_}
-use mathlib.Core.Path.{_≡_, refl, sym, ap, _∙_}
+use Prim.Native.Nat.{ℕ, zero, suc, _+_, _-_, _*_, _≤_, _<_}
+use mathlib.Core.Path.{_≡_, refl, ap, _∙_}
 use mathlib.Core.List.{List, [], _∷_}
 use native.Mathlib.Omega.{arith}
-use native.Mathlib.Nat.{div-mul-le-self, div-lt-iff-lt-mul, lt-suc-self, mul-le-mul-right, le-trans, lt-of-mul-lt-mul-right}
+use native.Mathlib.Nat.{lt-of-mul-lt-mul-right}
 use native.Mathlib.Decide.{decLe}
 use lib.ListN.{length, getD}
 use borrow.Author.Tests.{le-leb, lt-leb}

@@ -9,7 +9,7 @@ use native.Mathlib.Decide.{ℕ-discrete}
 use lib.ListN.{length, length-append}
 use lib.Dec.{eqb, ltb}
 use borrow.Author.Tests.{eq-eqb, ne-eqb, ltb-true}
-use Rattle.slices.specs.Every.{Every, every-more, every-at, every-weaken}
+use Rattle.slices.specs.Every.{Every, every-more, every-weaken}
 use Rattle.sheet.specs.Sheet.{Rule, Onset, Grammar, Playing, Timing, barUnits, unitIn, barOf, inBar}
 use Rattle.sheet.specs.Reading.{byte, four, allBelow, bytesFrom, headRefusal, headOf, divisionRefusal, divisionOf, leafRefusal}
 use Rattle.sheet.specs.Reading.{leafOf, ruleRefusal, ruleOf, withRule, playingRefusal, onsetRefusal, onsetOf, withOnset, Progress}

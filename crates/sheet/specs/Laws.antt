@@ -1,19 +1,18 @@
 -- Laws of reading, which proofs cite instead of the definitions' text: what a refusal 0 says of a line, and the steps of `readLines`.
-use Prim.Native.Nat.{ℕ, zero, suc, _+_, _-_, _*_, _<_, _≤_}
+use Prim.Native.Nat.{ℕ, zero, suc, _+_, _<_, _≤_}
 use mathlib.Core.Path.{_≡_, refl, sym, ap, _∙_}
-use mathlib.Core.Bool.{Bool, true, false, cond, _&&_, false≢true}
+use mathlib.Core.Bool.{Bool, true, false, cond}
 use mathlib.Core.List.{List, [], _∷_}
 use native.Mathlib.Omega.{arith}
 use native.Mathlib.Decide.{decLe}
-use lib.ListN.{length, getD}
+use lib.ListN.{length}
 use lib.Dec.{eqb, leb, ltb}
-use borrow.Author.Tests.{eqb-true, ne-eqb, le-leb, lt-leb, le-ltb, lt-ltb, leb-true, ltb-true}
+use borrow.Author.Tests.{eqb-true, le-leb, lt-leb, le-ltb, lt-ltb, leb-true, ltb-true}
 use Rattle.hextext.specs.Text.{badLine, lines}
-use Rattle.sheet.specs.Sheet.{Grammar, Playing, Timing, TimedSheet, barUnits, lineAt, endOf, unitIn, barOf, inBar}
+use Rattle.sheet.specs.Sheet.{Grammar, Playing, Timing, TimedSheet}
 use Rattle.sheet.specs.Outcome.{refused, accepted, accepted-not-refused}
-use Rattle.sheet.specs.Reading.{demand, first, byte, four, allBelow, bytesFrom, headRefusal, divisionRefusal, leafRefusal}
-use Rattle.sheet.specs.Reading.{playingRefusal, isTapped, stepRefusal, tapRefusal, onsetForm, momentRefusal, roomRefusal}
-use Rattle.sheet.specs.Reading.{onsetRefusal, otherRefusal, Progress, nothing, inRules, inTaps, inOnsets, refusal, after, atEnd}
+use Rattle.sheet.specs.Reading.{demand, first, byte, allBelow, bytesFrom, headRefusal, divisionRefusal, leafRefusal}
+use Rattle.sheet.specs.Reading.{Progress, nothing, inRules, inTaps, inOnsets, refusal, after, atEnd}
 use Rattle.sheet.specs.Reading.{readLines, readFormed, readSheet}
 
 -- a demand that gives 0 is met, and what comes after it gives 0

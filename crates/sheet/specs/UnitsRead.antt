@@ -2,16 +2,15 @@
 -- an onset for each `4E` line of the text, in order, each at the unit nearest to its share of its bar (`units-read`), which in a plain
 -- sheet is the unit nearest to its line's time (`plain-units-read`).
 use Prim.Native.Nat.{ℕ, zero, suc, _+_, _-_, _*_, _≤_, _<_}
-use mathlib.Core.Path.{_≡_, refl, sym, ap, subst, _∙_}
+use mathlib.Core.Path.{_≡_, refl, sym, ap, _∙_}
 use mathlib.Core.Bool.{Bool, false, cond}
 use mathlib.Core.List.{List, [], _∷_, map}
 use native.Mathlib.Omega.{arith}
 use native.Mathlib.Decide.{decLe}
 use lib.ListN.{length, getD, length-map, List·getD-eq-default}
-use lib.Dec.{eqb}
 use borrow.Author.Tests.{eqb-false}
 use Rattle.slices.specs.Pad.{pad, length-pad, getD-pad}
-use Rattle.slices.specs.Every.{Every, every-in}
+use Rattle.slices.specs.Every.{every-in}
 use Rattle.hextext.specs.Text.{lines}
 use Rattle.sheet.specs.declared.clock.Micros.{Micros}
 use Rattle.sheet.specs.declared.table.Reading.{Reading}

@@ -1,14 +1,14 @@
 -- `read_lines` meets its contract: the first line, the rules and the playing, each from where the one before ended. Assumes nothing.
 use native.Mathlib.Omega.{arith}
-use Prim.Native.Nat.{ℕ, _<_}
+use Prim.Native.Nat.{ℕ}
 use mathlib.Core.Path.{_≡_, sym, ap, _∙_}
 use native.Mathlib.Nat.{le-trans, le-of-eq}
 use mathlib.Core.List.{List}
-use lib.ListN.{length, drop}
+use lib.ListN.{drop}
 use Rattle.hextext.specs.Text.{lineBytes}
 use Rattle.hextext.specs.Laws.{line-within, line-size-pos}
 use Rattle.hextext.specs.PackedLaws.{line-next}
-use Rattle.sheet.specs.Reading.{headOf, headRefusal, nothing, inRules}
+use Rattle.sheet.specs.Reading.{headOf, nothing}
 use Rattle.sheet.specs.Rest.{readRest}
 use Rattle.sheet.specs.Held.{readingOf}
 use Rattle.grammar.specs.Contracts.{RulesRead, RulesDone}
@@ -106,10 +106,11 @@ returns c =
     let at-refusal = at-if1 .before in
     let at-line = at-refusal .before in
     let at-start = at-line .before .before in
+    let text = at-start .args .text .now in
+    let line = at-line .line-at .ensures in
     let number = at-refusal .first-refusal .ensures in
     c .stopped-at .ensures
-    ∙ ap readingOf (sym (first-refused (at-start .args .text .now) (at-start .pre .1) _ (at-line .line-at .ensures) _ (number .0) (number .1)
-    (at-if1 .if1 .taken)))
+    ∙ ap readingOf (sym (first-refused text (at-start .pre .1) _ line _ (number .0) (number .1) (at-if1 .if1 .taken)))
 
 head-of-requires : tie.Need-head-of-requires
 head-of-requires c κs = search needs
@@ -120,9 +121,10 @@ read-rules-requires c κs =
     let at-line = at-refusal .before in
     let at-start = at-line .before .before in
     let text = at-start .args .text .now in
+    let line = at-line .line-at .ensures in
     let number = at-refusal .first-refusal .ensures in
-    let taken = first-taken text (at-start .pre .1) _ (at-line .line-at .ensures) _ (number .0) (number .1) (c .before .if1 .left) in
-    let next = line-next text 0 _ (at-line .line-at .ensures) (taken .filled) in
+    let taken = first-taken text (at-start .pre .1) _ line _ (number .0) (number .1) (c .before .if1 .left) in
+    let next = line-next text 0 _ line (taken .filled) in
     let further = line-size-pos text 0 (at-start .pre .1) in
     (at-start .pre .0, le-trans (le-of-eq next) (line-within text 0 (omega arith)), omega (arith, next), omega arith)
 
