@@ -10,7 +10,7 @@ use sheet::{BAR_HALF_UNITS, BAR_UNITS, BarLines, Micros, Units, unit_of};
 // duration and 0 where they are tapped, the first bar line, the first moment whose unit is at or past the end, and `even`: the same moment
 // where all bars are of one duration, and 0 where they are tapped. So one test tells of a moment both that it is before the end and that
 // its unit is that of one duration.
-#[derive(Drop)]
+#[derive(Clone, Copy)]
 pub struct Clock {
     pub bars: u8,
     pub duration: Micros,

@@ -11,7 +11,7 @@ use sheet::{BAR_LINES_MOST, BAR_LONGEST, BAR_SHORTEST, BarLines, Micros, four_at
 
 // What reading bar lines gives: a refusal with its line and the place of that line; or, with number 0, the bar lines, and the line and the
 // place behind them.
-#[derive(Drop)]
+#[derive(Clone, Copy)]
 pub struct Bars {
     pub number: u8,
     pub line: usize,

@@ -1,5 +1,6 @@
 // Writing the first least list of an item: the rule is told by the item's row and the suffix costs behind it, and then its parts are
 // written from left to right, each with the suffix costs of those behind it.
+#![tactic(auto)]
 ghost use Rattle.std.specs.Prelude.{◌≡◌, [], ◌∷◌, ◌<◌, drop};
 ghost use Rattle.sheet.specs.Sheet.{Sheet};
 ghost use Rattle.trees.specs.LeastTotal.{NONE};
@@ -18,7 +19,7 @@ use rows::vector::{NO_CELL, NONE, dot, least, totals};
 use sheet::Units;
 
 // How far a tree is built: the place of its next byte, and the carry state behind it.
-#[derive(Drop)]
+#[derive(Clone, Copy)]
 pub struct Built {
     pub to: usize,
     pub carry: usize,

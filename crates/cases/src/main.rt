@@ -2,13 +2,14 @@
 // is run, and the sheet. Byte 46 runs `find`; behind it stand the byte that fills the tree slice beforehand, the byte that fills each byte
 // of the work cells, and the lengths of the tree and the work slice that are lent, two bytes each. Byte 52 prints what the program would
 // print.
+#![tactic(auto)]
 ghost use Rattle.std.specs.Prelude.{◌≡◌, ◌≤◌, length};
 
 use case_text::{behind, fill_from, least, place_of, print, print_front, wide};
 use reporting::{REFUSAL_LINE_BYTES, RefusalLine, SCORE_BYTES, Shown, TREE_BYTES_MOST, WORK_CELLS};
 
 // How `find` is run: what fills the slices, and how many bytes and cells are lent.
-#[derive(Drop)]
+#[derive(Clone, Copy)]
 struct Setting {
     byte: u8,
     cell: u64,

@@ -1,4 +1,5 @@
 // One rule at one item of a sheet, computed: what a leaf places and carries on, whether a division is allowed.
+#![tactic(auto)]
 ghost use Rattle.std.specs.Prelude.{◌≡◌};
 ghost use Rattle.sheet.specs.Sheet.{Sheet};
 ghost use Rattle.trees.specs.ValidTrees.{token};
@@ -10,14 +11,14 @@ pub use packed::{PackedRules, PackedUnits, UNIT_CELLS, pack_rules, pack_units, r
 use sheet::{KIND_MOST, RULES_MOST, Rule, Units};
 
 // An interval, by its left bound, counted from the first bar, and its length.
-#[derive(Drop)]
+#[derive(Clone, Copy)]
 pub struct Interval {
     pub left: Units,
     pub len: Units,
 }
 
 // What a leaf does with the onsets inside its interval: how many are early and how many late, and how far they are from their places.
-#[derive(Drop)]
+#[derive(Clone, Copy)]
 pub struct Placed {
     pub early: usize,
     pub late: usize,
@@ -25,7 +26,7 @@ pub struct Placed {
 }
 
 // What a rule makes of an item: nothing, where it is not allowed there; a leaf; a division into so many parts.
-#[derive(Drop)]
+#[derive(Clone, Copy)]
 pub enum Expansion {
     Refused,
     Leaf {

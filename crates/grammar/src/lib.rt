@@ -1,4 +1,5 @@
 // The grammar of a sheet: the `47` line, and the rules behind it, up to the `45` line, which the playing begins with.
+#![tactic(auto)]
 ghost use Rattle.std.specs.Prelude.{◌≡◌, List, ℕ, ◌+◌, ◌≤◌, ◌<◌, length};
 ghost use Rattle.hextext.specs.Packed.{DigitTable};
 ghost use Rattle.sheet.specs.Sheet.{Grammar};
@@ -19,7 +20,7 @@ use sheet::{
 
 // What reading the rules gives: a refusal with its line and the place of that line; or, with number 0, the grammar, and the number, the
 // place and the fields of the `45` line.
-#[derive(Drop)]
+#[derive(Clone, Copy)]
 pub struct Rules {
     pub number: u8,
     pub line: usize,

@@ -1,5 +1,7 @@
 // Lines of hexadecimal pairs, each closed by byte 0A: reading a line in one pass, finding the first bad line of a text, reading a line's
 // bytes into a slice, writing a line, and putting a field into a line. Texts and lines are of any length.
+#![tactic(auto)]
+
 ghost use Rattle.std.specs.Prelude.{◌≡◌, ◌<◌};
 ghost use Rattle.hextext.specs.Text.{value, pair, NextLine};
 ghost use Rattle.hextext.specs.Written.{digit_of, LineWritten};
@@ -31,7 +33,7 @@ fn pair_value(high: u8, low: u8) -> u8
 }
 
 // How many bytes a line has, and the place in the text behind it.
-#[derive(Drop)]
+#[derive(Clone, Copy)]
 pub struct Next {
     pub count: usize,
     pub next: usize,

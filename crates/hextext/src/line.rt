@@ -41,7 +41,7 @@ pub fn digit_table() -> Digits
 
 // A line that is well formed: its kind, which is its first byte, how many bytes it has, the first eight of them as one number where it has
 // more, the last eight, or all where it has fewer, as one number, and the place in the text behind it. Zeros for a line that is not.
-#[derive(Drop)]
+#[derive(Clone, Copy)]
 pub struct Line {
     pub kind: u8,
     pub count: usize,

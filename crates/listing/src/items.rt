@@ -11,7 +11,7 @@ pub const ITEMS_MOST: usize = BARS_MOST + 10 * (PARTS_MOST - 1);
 
 // What is still to be derived: `items` items, the next one last, each by its nonterminal and its length; the left bound of the next one;
 // how many onsets are carried in.
-#[derive(Drop)]
+#[derive(Clone, Copy)]
 pub struct Place {
     pub names: [u8; ITEMS_MOST],
     pub lens: [u32; ITEMS_MOST],
@@ -21,14 +21,14 @@ pub struct Place {
 }
 
 // A nonterminal over an interval.
-#[derive(Drop)]
+#[derive(Clone, Copy)]
 pub struct Item {
     pub name: u8,
     pub over: Interval,
 }
 
 // What a rule makes of the next item: nothing, a leaf that carries on so many onsets, or a division into so many parts.
-#[derive(Drop)]
+#[derive(Clone, Copy)]
 pub enum Move {
     Refused,
     Leaf { late: u8 },
@@ -36,7 +36,7 @@ pub enum Move {
 }
 
 // How many onsets inside an interval are early, and how many late.
-#[derive(Drop)]
+#[derive(Clone, Copy)]
 struct Counts {
     early: usize,
     late: usize,

@@ -3,7 +3,7 @@ use pricing::Priced;
 
 // What the listing has come to: the number of trees; the least total, NONE where there is none yet, how many trees have it, and whether the
 // first of these is the tree that finding gave; and how many lists went wrong: they were refused by pricing, or longer than any tree.
-#[derive(Drop)]
+#[derive(Clone, Copy)]
 pub struct Tally {
     pub trees: u64,
     pub least: u64,

@@ -1,5 +1,6 @@
 // What the search looks up of a grammar, prepared once for a sheet in one flat array: a reference to a struct is not covered, and a
 // grammar by value is copied at each call. The array is read through the functions below alone.
+#![tactic(auto)]
 ghost use Rattle.std.specs.Prelude.{◌≡◌, ℕ, ◌*◌, ◌/◌, ◌<◌, ◌≤◌};
 ghost use Rattle.sheet.specs.Sheet.{Sheet};
 ghost use Rattle.trees.specs.ValidTrees.{weight_at};
@@ -32,14 +33,14 @@ pub use ways::{NO_CELL, NONE};
 pub type Plan = [u64; PLAN_CELLS];
 
 // How a rule divides an interval: into `arity` parts of the length with index `part`; arity 0 where it does not.
-#[derive(Drop)]
+#[derive(Clone, Copy)]
 pub struct Split {
     pub arity: usize,
     pub part: usize,
 }
 
 // A rule as a division: its head, and the number of its parts.
-#[derive(Drop)]
+#[derive(Clone, Copy)]
 pub struct Shape {
     pub head: usize,
     pub arity: usize,

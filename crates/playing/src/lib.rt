@@ -1,4 +1,5 @@
 // The playing of a sheet: the `45` line, and the `4E` lines behind it.
+#![tactic(auto)]
 ghost use Rattle.std.specs.Prelude.{◌≡◌, ℕ, ◌+◌, ◌≤◌, ◌<◌, length};
 ghost use Rattle.hextext.specs.Packed.{DigitTable, line_read};
 ghost use Rattle.sheet.specs.Sheet.{Grammar, no_playing};
@@ -19,7 +20,7 @@ use sheet::{
 };
 
 // What reading the playing gives: a refusal with its line and the place of that line; or, with number 0, the timing and the playing.
-#[derive(Drop)]
+#[derive(Clone, Copy)]
 pub struct Take {
     pub number: u8,
     pub line: usize,

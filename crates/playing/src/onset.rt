@@ -14,7 +14,7 @@ use sheet::{
 };
 
 // What the next onset is held against: the time of the last one, its bar, and how many onsets are in that bar.
-#[derive(Drop)]
+#[derive(Clone, Copy)]
 pub struct Latest {
     pub time: Micros,
     pub bar: u32,
@@ -22,7 +22,7 @@ pub struct Latest {
 }
 
 // What an onset line gives: its refusal; or, with number 0, its unit and what the next onset is held against.
-#[derive(Drop)]
+#[derive(Clone, Copy)]
 pub struct OnsetStep {
     pub number: u8,
     pub unit: Units,
@@ -30,7 +30,7 @@ pub struct OnsetStep {
 }
 
 // What a moment gives: its refusal; or, with number 0, its unit.
-#[derive(Drop)]
+#[derive(Clone, Copy)]
 pub struct Moment {
     pub number: u8,
     pub unit: Units,

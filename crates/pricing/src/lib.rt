@@ -1,4 +1,5 @@
 // Pricing an offered list: whether it is a valid tree of a sheet, and its node count, R, D and total.
+#![tactic(auto)]
 ghost use Rattle.std.specs.Prelude.{◌≡◌, List, ℕ, length};
 ghost use Rattle.sheet.specs.Sheet.{Sheet};
 ghost use Rattle.sheet.specs.Accepted.{SheetHeld};
@@ -11,7 +12,7 @@ use sheet::{BAR_UNITS, BARS_MOST, GrammarTable, PARTS_MOST, PlayingTable, Units}
 use sizes::ONSET_TREE_BYTES;
 
 // What pricing gives: a refusal with its number and its line, and zeros elsewhere; or number 0, line 0, node count, R, D and total.
-#[derive(Drop)]
+#[derive(Clone, Copy)]
 pub struct Priced {
     pub number: u8,
     pub line: usize,
@@ -23,7 +24,7 @@ pub struct Priced {
 
 // How far a list is read: the place of its next rule, the first onset at or behind the interval's left bound, how many onsets are carried
 // in, and the sums so far.
-#[derive(Drop)]
+#[derive(Clone, Copy)]
 pub struct Progress {
     pub at: usize,
     pub from: usize,
@@ -33,7 +34,7 @@ pub struct Progress {
 }
 
 // What reading an item's tree off a list gives: none is there, or how far the list is read behind it.
-#[derive(Drop)]
+#[derive(Clone, Copy)]
 pub enum Walk {
     Stuck,
     Upto(Progress),

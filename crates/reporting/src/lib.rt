@@ -1,4 +1,5 @@
 // The entry behind the program: the score lines of the first least tree of the sheet that a text means, or the line of a refusal.
+#![tactic(auto)]
 ghost use Rattle.std.specs.Prelude.{◌≡◌, ◌≤◌, ◌<◌, length, take};
 ghost use Rattle.sheet.specs.Sheet.{Sheet};
 ghost use Rattle.sheet.specs.Accepted.{SheetHeld};
@@ -27,7 +28,7 @@ pub const WORK_CELLS: usize = 8192;
 pub const SCORE_BYTES: usize = 65536;
 
 // Where the text to print stands: so many bytes at the front of the score slice, or the whole line slice.
-#[derive(Drop)]
+#[derive(Clone, Copy)]
 pub enum Shown {
     Score { bytes: usize },
     Line,

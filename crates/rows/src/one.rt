@@ -20,7 +20,7 @@ use plan::{
 use sheet::Units;
 
 // Cells 0 and 1 of a row.
-#[derive(Drop)]
+#[derive(Clone, Copy)]
 pub struct Pair {
     pub zero: u64,
     pub one: u64,

@@ -18,7 +18,7 @@ const MARK: u64 = 144115188075855872;
 
 // A bar: the place of the first onset at or behind its start, the number of slots, its own number from 0, and by how many places its slots
 // are turned. It is copied at every call; with the fields in this order the processor waits least for what was just stored.
-#[derive(Drop)]
+#[derive(Clone, Copy)]
 pub struct Bar {
     pub first: usize,
     pub slots: usize,

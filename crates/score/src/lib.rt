@@ -1,4 +1,5 @@
 // Score lines: the head and a line for each leaf of a valid tree, written as text into a slice.
+#![tactic(auto)]
 ghost use Rattle.std.specs.Prelude.{◌≡◌, ◌≤◌, length};
 ghost use Rattle.sheet.specs.Sheet.{Sheet};
 ghost use Rattle.sheet.specs.Accepted.{SheetHeld};
@@ -20,7 +21,7 @@ use sheet::{GrammarTable, PlayingTable, RULES_MOST, Rule};
 use tree::write_bars;
 
 // What writing gives: a refusal with its number and its line, and no bytes; or number 0, line 0 and the number of bytes written.
-#[derive(Drop)]
+#[derive(Clone, Copy)]
 pub struct Written {
     pub number: u8,
     pub line: usize,

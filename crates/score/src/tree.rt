@@ -10,7 +10,7 @@ use sheet::{BAR_UNITS, Pitches, Rule, Units};
 
 // Where writing stands: the place of the next rule in the list, the first onset at or behind the left bound, how many onsets before it are
 // carried in, and the place in the score.
-#[derive(Drop)]
+#[derive(Clone, Copy)]
 pub struct Place {
     pub at: usize,
     pub from: usize,

@@ -1,5 +1,6 @@
 // The search for the first least tree of a sheet, bar after bar: the rows of bars up to a bar line that nothing is carried over, then the
 // suffix costs behind them from the last of these bars to the first, and then their trees from the first to the last.
+#![tactic(auto)]
 ghost use Rattle.std.specs.Prelude.{◌≡◌, ◌≤◌, length, take};
 ghost use Rattle.slices.specs.Over.{over};
 ghost use Rattle.slices.specs.Filled.{Filled};
@@ -27,7 +28,7 @@ const ROOT_CELLS: usize = ITEM_CELLS * BARS_MOST;
 const VECTOR_CELLS: usize = 4 * (BARS_MOST + 1);
 
 // What the search gives: there is no tree, or how many bytes the tree has and what it totals.
-#[derive(Drop)]
+#[derive(Clone, Copy)]
 pub enum Found {
     NoTree,
     Tree { nodes: usize, total: u64 },

@@ -5,7 +5,7 @@ ghost use Rattle.sheet.specs.Sheet.{unit_of};
 use crate::limits::BARS_MOST;
 
 // Real time, in microseconds.
-#[derive(Drop)]
+#[derive(Clone, Copy)]
 pub struct Micros(pub u32);
 
 // The units of a bar.
@@ -18,7 +18,7 @@ pub const BAR_HALF_UNITS: u32 = 2 * BAR_UNITS;
 pub const PIECE_UNITS: u32 = BAR_UNITS * (BARS_MOST as u32);
 
 // Musical time, in units: BAR_UNITS a bar.
-#[derive(Drop)]
+#[derive(Clone, Copy)]
 pub struct Units(pub u32);
 
 // The unit nearest to a moment, an exact half upwards, where a bar lasts `duration`; both count from one bar line. Of bars that do not last

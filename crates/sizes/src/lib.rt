@@ -1,4 +1,5 @@
 // The lengths of intervals that a grammar's divisions reach, and the required lengths of finding's slices.
+#![tactic(auto)]
 ghost use Rattle.std.specs.Prelude.{◌≡◌, ◌*◌, ◌<◌, ◌≤◌};
 ghost use Rattle.sheet.specs.Sheet.{Grammar, Playing, Sheet};
 ghost use Rattle.sheet.specs.Held.{grammar_table, playing_table};
@@ -35,7 +36,7 @@ pub const TREE_BYTES_MOST: usize = BARS_MOST + ONSET_TREE_BYTES * ONSETS_MOST;
 pub const ITEM_CELLS: usize = 16;
 
 // The lengths of intervals: `count` from the front of `cells`, from the largest down, the whole bar first. Places left are zero.
-#[derive(Drop)]
+#[derive(Clone, Copy)]
 pub struct LengthTable {
     pub count: usize,
     pub cells: LengthCells,

@@ -5,7 +5,7 @@ ghost use Rattle.tempo.specs.Tempo.{in_range, percent_of, tempo_of, percent_in, 
 use sheet::{BAR_LONGEST, BAR_SHORTEST, Micros};
 
 // The answer for two adjoining bars: the tempo stays, or the next bar is faster or slower by a percentage.
-#[derive(Drop)]
+#[derive(Clone, Copy)]
 pub enum Tempo {
     Steady,
     Faster(f64),
@@ -13,7 +13,7 @@ pub enum Tempo {
 }
 
 // A bar's tempo record: its own duration and the next bar's in microseconds, and the percentage, 0 when steady.
-#[derive(Drop)]
+#[derive(Clone, Copy)]
 pub struct TempoRecord {
     pub duration: u32,
     pub next: u32,

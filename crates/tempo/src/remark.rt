@@ -10,7 +10,7 @@ use sheet::{Micros, TimingTable};
 
 // What is given for a text and a bar: a refusal with its number and its line, steady and zeros elsewhere; or number 0, line 0, how the tempo
 // moves to the next bar, and the bar's record; steady and zeros where no bar follows.
-#[derive(Drop)]
+#[derive(Clone, Copy)]
 pub struct Remark {
     pub number: u8,
     pub line: usize,

@@ -1,12 +1,13 @@
 // Prices and writes lists against sheets that are read from standard input. A case is a line that names it, a line of pairs with the bytes
 // of the list, a line of pairs that says how it is run, and the sheet. How it is run: one byte that fills the score slice beforehand, two
 // bytes for the slice's length and four for the list's; where that is more than the list has, zeros follow.
+#![tactic(auto)]
 ghost use Rattle.std.specs.Prelude.{◌≡◌, ◌≤◌, length};
 
 use case_text::{behind, fill_from, least, place_of, print, wide};
 
 // How a case is run.
-#[derive(Drop)]
+#[derive(Clone, Copy)]
 struct Setting {
     fill: u8,
     room: usize,

@@ -1,0 +1,15 @@
+-- `shape_at` meets its contract: the rule in the plan is the sheet's, and its cell has the head and the number of parts. Assumes nothing.
+use Rattle.plan.proofs.RuleSteps.{division_shape, leaf_shape}
+use Rattle.plan.proofs.shape_at.Goals as goal
+
+pub returns-in-Division : goal.returns-in-Division
+returns-in-Division c =
+    let unpacked = c.unpacked-rule in
+    let rule = c.rule-1 in
+    λ s p. division_shape s _ c.args.r _ c.requires unpacked.ensures p _ _ _ rule.given.1
+
+pub returns-in-Leaf : goal.returns-in-Leaf
+returns-in-Leaf c =
+    let unpacked = c.unpacked-rule in
+    let rule = c.enum_told-1 in
+    λ s p. leaf_shape s _ c.args.r _ c.requires unpacked.ensures p _ _ _ rule.given.1

@@ -1,0 +1,79 @@
+-- `read_playing` meets its contract: the `45` line is refused; or its bar lines are read from where it ends, and then the onsets. Assumes
+-- nothing.
+use mathlib.Core.Path.{◌≡◌, sym, subst, ◌∙◌}
+use native.Mathlib.Omega.{arith}
+use Prim.Native.Nat.{◌+◌, ◌≤◌}
+use lib.ListN.{length, drop}
+use lib.Dec.{eqb}
+use borrow.Author.Rules.{rules}
+use Rattle.hextext.specs.Text.{line_bytes}
+use Rattle.sheet.specs.Sheet.{Grammar, no_playing}
+use Rattle.sheet.specs.Reading.{playing_refusal, in_rules, in_onsets}
+use Rattle.sheet.specs.Rest.{read_rest}
+use Rattle.sheet.specs.Held.{LineHeld}
+use Rattle.bar_lines.specs.Lines.{lines_in, bars_next}
+use Rattle.playing.specs.Clauses.{TakeRead}
+use Rattle.playing.proofs.OnsetLoop.{take_refused}
+use Rattle.playing.proofs.HeadLine.{head_held, head_within, head_refused, head_passed, head_on}
+use Rattle.playing.proofs.read_playing.Goals as goal
+
+-- the line as it is held
+held : (s : tie.Start) → LineHeld s.args.l (line_bytes (drop s.args.at s.args.text.now))
+held s = let pre = s.requires in head_held s.args.text.now s.args.at pre.1 _ pre.4 pre.5
+
+met : (c : tie.After-four-at) → playing_refusal (line_bytes (drop (start_of c).args.at (start_of c).args.text.now)) ≡ 0
+met c =
+    let at-if1 = c.before.before in
+    sym (at-if1.before.playing-refusal.ensures _ (held (start_of c))) ∙ at-if1.if1.false
+
+-- what the `45` line comes to is what the bar lines behind it come to
+module _ (c : tie.After-read-bars) (g : Grammar) (some : 1 ≤ length g.rules) (kind : (start_of c.before).args.l.kind ≡ 0x45) where
+  abbrev s : tie.Start
+  s = start_of c.before
+
+  on : read_rest (in_rules g) s.args.line (drop s.args.at s.args.text.now)
+      ≡ read_rest (bars_next g c.before.before.byte_at.result c.before.four-at.result) (s.args.line + 1)
+      (drop s.args.l.next s.args.text.now)
+  on =
+      head_on s.args.text.now s.args.at s.pre.1 _ s.pre.4 s.pre.5 s.args.line g some kind (met c.before) _ _
+      (c.before.before.byte_at.ensures _ (held s)) (c.before.four-at.ensures _ (held s))
+
+pub returns-then-number-ne0 : goal.returns-then-number-ne0
+returns-then-number-ne0 c g good some kind =
+    let pre = c.requires in
+    take_refused _ c.refused_take.ensures c.if-number-ne0.true pre.2
+    (head_refused c.args.text.now c.args.at pre.1 _ pre.4 pre.5 c.args.line g some kind _
+    (c.playing_refusal-number.ensures _ (held (goal.at.returns-then-number-ne0 c).Start)) c.if-number-ne0.true)
+
+pub read_bars-read-requires : goal.read_bars-read-requires
+read_bars-read-requires c =
+    let next = head_within c.args.text.now c.args.at c.requires.1 _ c.requires.4 c.requires.5 in
+    let passed = head_passed c.args.text.now c.args.at c.requires.1 _ c.requires.4 c.requires.5 (met (goal.at.read_bars-read-requires c).After-four_at) _ _
+    (c.byte_at-bars.ensures _ (held (goal.at.read_bars-read-requires c).Start)) (c.four_at.ensures _ (held (goal.at.read_bars-read-requires c).Start)) in
+    (c.requires.0, next.0, next.1 _ c.requires.2, omega arith, passed.0, passed.1, passed.2)
+
+pub returns-then-refusal-ne0 : goal.returns-then-refusal-ne0
+returns-then-refusal-ne0 c g good some kind =
+    let bars = c.read_bars-read.ensures.read in
+    take_refused _ c.refused_take-then-refusal-ne0.ensures c.if-refusal-ne0.true bars.place
+    (on (goal.at.returns-then-refusal-ne0 c).After-read_bars-read g some kind ∙ bars.stop c.if-refusal-ne0.true g)
+
+pub clock_of-clock-requires : goal.clock_of-clock-requires
+clock_of-clock-requires c =
+    c.read_bars-read.ensures.lines c.if-refusal-ne0.false
+
+pub read_onsets-requires : goal.read_onsets-requires
+read_onsets-requires c =
+    let bars = c.read_bars-read.ensures.read in
+    (c.requires.0, bars.within, bars.place, bars.numbered, c.clock_of-clock.ensures.2)
+
+pub returns : goal.returns
+returns c g good some kind =
+    let text = c.args.text.now in
+    let bars = c.read_bars-read.result in
+    let is = c.clock_of-clock.ensures in
+    subst (λ o. TakeRead text o g c.read_onsets.result)
+    (sym (on (goal.at.returns c).After-read_bars-read g some kind ∙ c.read_bars-read.ensures.read.done c.if-refusal-ne0.false g
+    ∙ (λ j. read_rest (in_onsets g (eqb (sym is.1 j).0 0) (lines_in (sym is.0 j) bars.lines) (no_playing (sym is.0 j)) 0)
+    bars.line (drop bars.at text))))
+    (c.read_onsets.ensures g)

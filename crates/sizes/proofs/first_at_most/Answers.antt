@@ -1,0 +1,24 @@
+use native.Mathlib.Omega.{arith}
+use borrow.Author.Count.{below_more}
+use borrow.Author.Rules.{rules}
+use Rattle.sizes.proofs.first_at_most.Goals as goal
+
+pub loop-i-init : goal.loop-i-init
+loop-i-init c = (search rules, search rules, λ j l m. absurd (omega arith))
+
+pub returns-then-y-x : goal.returns-then-y-x
+returns-then-y-x c =
+    record { on = search rules; within = search rules; above = λ j m k. c.loop-i.invariant.2 j k m; at_most = λ _. c.if-y-x.true }
+
+pub loop-i-preserved : goal.loop-i-preserved
+loop-i-preserved c =
+    (search rules, search rules, below_more _ _ c.loop-i.invariant.2 (λ _. omega arith))
+
+pub returns : goal.returns
+returns c =
+    record {
+      on = search rules;
+      within = search rules;
+      above = λ j m k. c.loop-i.invariant.2 j (omega arith) m;
+      at_most = λ k. absurd (omega arith);
+    }

@@ -1,0 +1,37 @@
+use Prim.Native.Nat.{◌≤◌}
+use mathlib.Core.Logic.{⊎_elim}
+use native.Mathlib.Omega.{arith}
+use borrow.Author.Rules.{rules}
+use Rattle.sizes.proofs.BarSteps.{run_stays, run_starts, counted_none, counted_more, counted_all}
+use Rattle.sizes.proofs.most_in_bar.Goals as goal
+
+pub loop-i-init : goal.loop-i-init
+loop-i-init c = (search rules, search rules, search rules, counted_none _)
+
+pub overflow_add-run : goal.overflow_add-run
+overflow_add-run c = ⊎_elim (λ w. omega arith) (λ w. omega arith) c.if-b-bar.branch
+
+pub loop-i-preserved-then-most-run : goal.loop-i-preserved-then-most-run
+loop-i-preserved-then-most-run c =
+    let small : c.if-b-bar.run ≤ c.loop-i.i = ⊎_elim (λ w. omega arith) (λ w. omega arith) c.if-b-bar.branch in (
+      search rules,
+      omega arith,
+      omega arith,
+      counted_more _ _ _ _ _ c.loop-i.invariant.3 (omega arith) c.if-b-bar.run c.if-b-bar.bar _
+          (⊎_elim (λ w. run_starts w.0.taken w.1 w.2) (λ w. run_stays w.0.left w.1 w.2) c.if-b-bar.branch)
+          (omega arith),
+    )
+
+pub loop-i-preserved : goal.loop-i-preserved
+loop-i-preserved c =
+    let small : c.if-b-bar.run ≤ c.loop-i.i = ⊎_elim (λ w. omega arith) (λ w. omega arith) c.if-b-bar.branch in (
+      search rules,
+      omega arith,
+      omega arith,
+      counted_more _ _ _ _ _ c.loop-i.invariant.3 (omega arith) c.if-b-bar.run c.if-b-bar.bar _
+          (⊎_elim (λ w. run_starts w.0.taken w.1 w.2) (λ w. run_stays w.0.left w.1 w.2) c.if-b-bar.branch)
+          (omega arith),
+    )
+
+pub returns : goal.returns
+returns c = (omega arith, counted_all _ _ _ _ c.loop-i.i c.loop-i.invariant.3 (omega arith))
