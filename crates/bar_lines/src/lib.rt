@@ -1,5 +1,6 @@
 // The bar lines of a sheet, tapped or evenly spaced, and the units of moments by them.
 #![tactic(auto)]
+
 mod clock;
 mod even;
 mod taps;

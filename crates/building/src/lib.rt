@@ -1,6 +1,7 @@
 // Writing the first least list of an item: the rule is told by the item's row and the suffix costs behind it, and then its parts are
 // written from left to right, each with the suffix costs of those behind it.
 #![tactic(auto)]
+
 ghost use Rattle.std.specs.Prelude.{◌≡◌, [], ◌∷◌, ◌<◌, drop};
 ghost use Rattle.sheet.specs.Sheet.{Sheet};
 ghost use Rattle.trees.specs.LeastTotal.{NONE};

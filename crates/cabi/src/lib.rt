@@ -1,5 +1,6 @@
 // The entries for C and Rust. A text is a pointer to its bytes and their number. Each entry takes every text and checks it itself.
 #![tactic(auto)]
+
 ghost use Rattle.std.specs.Prelude.{◌≡◌, length};
 ghost use Rattle.sheet.specs.Reading.{read_sheet};
 ghost use Rattle.pricing.specs.Pricing.{price_text, priced_of};

@@ -1,5 +1,6 @@
 // The input of programs that run cases: a case starts with a line that begins with # and names it, and ends before the next #.
 #![tactic(auto)]
+
 ghost use Rattle.std.specs.Prelude.{◌≡◌, ◌+◌, ◌≤◌, ◌<◌, min, length};
 
 pub fn wide(b: u8) -> usize

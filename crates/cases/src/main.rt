@@ -3,6 +3,7 @@
 // of the work cells, and the lengths of the tree and the work slice that are lent, two bytes each. Byte 52 prints what the program would
 // print.
 #![tactic(auto)]
+
 ghost use Rattle.std.specs.Prelude.{◌≡◌, ◌≤◌, length};
 
 use case_text::{behind, fill_from, least, place_of, print, print_front, wide};

@@ -1,5 +1,6 @@
 // One rule at one item of a sheet, computed: what a leaf places and carries on, whether a division is allowed.
 #![tactic(auto)]
+
 ghost use Rattle.std.specs.Prelude.{◌≡◌};
 ghost use Rattle.sheet.specs.Sheet.{Sheet};
 ghost use Rattle.trees.specs.ValidTrees.{token};

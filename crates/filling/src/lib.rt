@@ -2,6 +2,7 @@
 // one, from the shortest length to the longest and for all nonterminals at once. Where many rules share their parts this is faster than
 // solving a row when it is asked for. The table is as sound behind it as before, so nothing else is promised.
 #![tactic(auto)]
+
 mod fill;
 mod order;
 

@@ -1,5 +1,6 @@
 // The grammar of a sheet: the `47` line, and the rules behind it, up to the `45` line, which the playing begins with.
 #![tactic(auto)]
+
 ghost use Rattle.std.specs.Prelude.{◌≡◌, List, ℕ, ◌+◌, ◌≤◌, ◌<◌, length};
 ghost use Rattle.hextext.specs.Packed.{DigitTable};
 ghost use Rattle.sheet.specs.Sheet.{Grammar};

@@ -3,6 +3,7 @@
 // Printed: the number of trees, the least total and how many trees have it, whether finding gives the first of these, or 11 where there is
 // none, and the bytes that it gives. Lists are made in dictionary order, since at each item the rules are tried from 0 up.
 #![tactic(auto)]
+
 ghost use Rattle.std.specs.Prelude.{◌≡◌, length};
 
 use case_text::{behind, least, place_of, print_front, wide};

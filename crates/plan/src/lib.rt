@@ -1,6 +1,7 @@
 // What the search looks up of a grammar, prepared once for a sheet in one flat array: a reference to a struct is not covered, and a
 // grammar by value is copied at each call. The array is read through the functions below alone.
 #![tactic(auto)]
+
 ghost use Rattle.std.specs.Prelude.{◌≡◌, ℕ, ◌*◌, ◌/◌, ◌<◌, ◌≤◌};
 ghost use Rattle.sheet.specs.Sheet.{Sheet};
 ghost use Rattle.trees.specs.ValidTrees.{weight_at};

@@ -1,5 +1,6 @@
 // The playing of a sheet: the `45` line, and the `4E` lines behind it.
 #![tactic(auto)]
+
 ghost use Rattle.std.specs.Prelude.{◌≡◌, ℕ, ◌+◌, ◌≤◌, ◌<◌, length};
 ghost use Rattle.hextext.specs.Packed.{DigitTable, line_read};
 ghost use Rattle.sheet.specs.Sheet.{Grammar, no_playing};

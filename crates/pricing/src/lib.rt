@@ -1,5 +1,6 @@
 // Pricing an offered list: whether it is a valid tree of a sheet, and its node count, R, D and total.
 #![tactic(auto)]
+
 ghost use Rattle.std.specs.Prelude.{◌≡◌, List, ℕ, length};
 ghost use Rattle.sheet.specs.Sheet.{Sheet};
 ghost use Rattle.sheet.specs.Accepted.{SheetHeld};

@@ -1,5 +1,6 @@
 // Reading a sheet: a text is refused, by numbers 1 to 8 and 17 to 19, or means a grammar, bar lines, and a playing in units.
 #![tactic(auto)]
+
 ghost use Rattle.std.specs.Prelude.{◌≡◌, List, ℕ, ◌+◌, ◌<◌, ◌≤◌, length, drop};
 ghost use Rattle.hextext.specs.Packed.{DigitTable};
 ghost use Rattle.sheet.specs.Outcome.{refused};

@@ -1,6 +1,7 @@
 // Reads texts from standard input and prints the outcome of reading each as a sheet. A text starts behind a line that begins with # and
 // names it, and ends before the next #.
 #![tactic(auto)]
+
 use case_text::{behind, place_of, print};
 use sheet::{BAR_LINES_MOST, ONSETS_MOST, PlayingTable, Reading, TimingTable};
 

@@ -1,6 +1,7 @@
 // Reads a sheet from standard input and prints the score lines of the first least tree, or one line with the refusal. One byte more than a
 // sheet may have is read, so that a longer input is seen to be too long.
 #![tactic(auto)]
+
 use reporting::{REFUSAL_LINE_BYTES, SCORE_BYTES, Shown, TREE_BYTES_MOST, WORK_CELLS};
 use sheet::TEXT_MOST;
 

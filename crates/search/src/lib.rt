@@ -1,6 +1,7 @@
 // The search for the first least tree of a sheet, bar after bar: the rows of bars up to a bar line that nothing is carried over, then the
 // suffix costs behind them from the last of these bars to the first, and then their trees from the first to the last.
 #![tactic(auto)]
+
 ghost use Rattle.std.specs.Prelude.{◌≡◌, ◌≤◌, length, take};
 ghost use Rattle.slices.specs.Over.{over};
 ghost use Rattle.slices.specs.Filled.{Filled};

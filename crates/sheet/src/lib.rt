@@ -1,6 +1,7 @@
 // A sheet: its meaning in specs/, and here the tables that hold it, the two clocks with the one conversion between them, and the fields of
 // a line.
 #![tactic(auto)]
+
 mod clock;
 mod limits;
 mod line;

@@ -1,5 +1,6 @@
 // The lengths of intervals that a grammar's divisions reach, and the required lengths of finding's slices.
 #![tactic(auto)]
+
 ghost use Rattle.std.specs.Prelude.{◌≡◌, ◌*◌, ◌<◌, ◌≤◌};
 ghost use Rattle.sheet.specs.Sheet.{Grammar, Playing, Sheet};
 ghost use Rattle.sheet.specs.Held.{grammar_table, playing_table};

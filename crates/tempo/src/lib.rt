@@ -1,5 +1,6 @@
 // How the tempo moves from bar to bar (document 02, (vii)): between two durations, and for a sheet and a bar of it.
 #![tactic(auto)]
+
 mod between;
 mod remark;
 

@@ -2,6 +2,7 @@
 // of the list, a line of pairs that says how it is run, and the sheet. How it is run: one byte that fills the score slice beforehand, two
 // bytes for the slice's length and four for the list's; where that is more than the list has, zeros follow.
 #![tactic(auto)]
+
 ghost use Rattle.std.specs.Prelude.{◌≡◌, ◌≤◌, length};
 
 use case_text::{behind, fill_from, least, place_of, print, wide};

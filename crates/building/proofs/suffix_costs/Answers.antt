@@ -3,43 +3,72 @@
 -- ---- places
 -- ---- what each call gives, of a sheet s
 -- ---- the needs
-use Prim.Native.Nat.{ℕ}
 use mathlib.Core.Path.{sym, ◌∙◌}
-use mathlib.Core.List.{List}
 use native.Mathlib.Omega.{arith}
 use lib.ListN.{drop}
 use Rattle.sheet.specs.Sheet.{Sheet}
 use Rattle.rows.specs.Rows.{parts_at}
 use Rattle.building.specs.Clauses.{SuffixPre, PassedAs}
 use Rattle.building.proofs.SuffixSteps.{suffix_from, suffix_none, suffix_four}
+use Rattle.building.proofs.suffix_costs.Goals.{After-passed-a, After-passed-b, After-passed-c, After-passed-d}
 use Rattle.building.proofs.suffix_costs.Goals as goal
 
-abbrev Asked : tie.Start → Sheet → Type 0
-Asked c s =
-    let a = c.args in
-    SuffixPre s a.plan.now a.units.now a.rows.now a.bar a.r a.i a.k a.l a.left a.from 0 a.y a.v
+zero : (c : After-passed-a) (s : Sheet) (h : (let a = c.args in
+    SuffixPre s a.plan.now a.units.now a.rows.now a.bar a.r a.i a.k a.l a.left a.from 0 a.y a.v))
+    → (let a = c.args in
+    PassedAs s c.passed-a.new.rows (parts_at s a.l a.left (drop a.i h.parts.divides.parts)) a.y a.v 0 c.passed-a.result)
+zero c s h = c.passed-a.ensures s h
 
--- w is what the parts total from carry state m, or the cap, where the table is `rows` behind the call
-abbrev Given : (c : tie.Start) (s : Sheet) → Asked c s → (rows : List ℕ) (m w : ℕ) → Type 0
-Given c s h rows m w =
-    let a = c.args in
-    PassedAs s rows (parts_at s a.l a.left (drop a.i h.parts.divides.parts)) a.y a.v m w
+one : (c : After-passed-b) (s : Sheet) (h : (let a = c.args in
+    SuffixPre s a.plan.now a.units.now a.rows.now a.bar a.r a.i a.k a.l a.left a.from 0 a.y a.v))
+    → (let a = c.args in
+    PassedAs s c.passed-b.new.rows (parts_at s a.l a.left (drop a.i h.parts.divides.parts)) a.y a.v 1 c.passed-b.result)
+one c s h =
+    let zero-here : (s : Sheet) (h : (let a = c.args in
+    SuffixPre s a.plan.now a.units.now a.rows.now a.bar a.r a.i a.k a.l a.left a.from 0 a.y a.v))
+    → (let a = c.args in
+    PassedAs s c.passed-a.new.rows (parts_at s a.l a.left (drop a.i h.parts.divides.parts)) a.y a.v 0 c.passed-a.result) =
+    λ s h. c.passed-a.ensures s h in
+    c.passed-b.ensures s (suffix_from h _ 1 (omega arith) (zero-here s h).sound)
 
-zero : (c : tie.After-passed) (s : Sheet) (h : Asked (start_of c) s)
-    → Given (start_of c) s h c.passed.new.1.1.0 0 c.passed.result
-zero c s h = c.passed.ensures s h
+two : (c : After-passed-c) (s : Sheet) (h : (let a = c.args in
+    SuffixPre s a.plan.now a.units.now a.rows.now a.bar a.r a.i a.k a.l a.left a.from 0 a.y a.v))
+    → (let a = c.args in
+    PassedAs s c.passed-c.new.rows (parts_at s a.l a.left (drop a.i h.parts.divides.parts)) a.y a.v 2 c.passed-c.result)
+two c s h =
+    let zero-here : (s : Sheet) (h : (let a = c.args in
+    SuffixPre s a.plan.now a.units.now a.rows.now a.bar a.r a.i a.k a.l a.left a.from 0 a.y a.v))
+    → (let a = c.args in
+    PassedAs s c.passed-a.new.rows (parts_at s a.l a.left (drop a.i h.parts.divides.parts)) a.y a.v 0 c.passed-a.result) =
+    λ s h. c.passed-a.ensures s h in
+    let one-here : (s : Sheet) (h : (let a = c.args in
+    SuffixPre s a.plan.now a.units.now a.rows.now a.bar a.r a.i a.k a.l a.left a.from 0 a.y a.v))
+    → (let a = c.args in
+    PassedAs s c.passed-b.new.rows (parts_at s a.l a.left (drop a.i h.parts.divides.parts)) a.y a.v 1 c.passed-b.result) =
+    λ s h. c.passed-b.ensures s (suffix_from h _ 1 (omega arith) (zero-here s h).sound) in
+    c.passed-c.ensures s (suffix_from h _ 2 (omega arith) (one-here s h).sound)
 
-one : (c : tie.After-passed2) (s : Sheet) (h : Asked (start_of (first-place c)) s)
-    → Given (start_of (first-place c)) s h c.passed2.new.1.1.0 1 c.passed2.result
-one c s h = c.passed2.ensures s (suffix_from h _ 1 (omega arith) (zero (first-place c) s h).sound)
-
-two : (c : tie.After-passed3) (s : Sheet) (h : Asked (start_of (first-place (second-place c))) s)
-    → Given (start_of (first-place (second-place c))) s h c.passed3.new.1.1.0 2 c.passed3.result
-two c s h = c.passed3.ensures s (suffix_from h _ 2 (omega arith) (one (second-place c) s h).sound)
-
-three : (c : tie.After-passed4) (s : Sheet) (h : Asked (start_of (first-place (second-place (third-place c)))) s)
-    → Given (start_of (first-place (second-place (third-place c)))) s h c.passed4.new.1.1.0 3 c.passed4.result
-three c s h = c.passed4.ensures s (suffix_from h _ 3 (omega arith) (two (third-place c) s h).sound)
+three : (c : After-passed-d) (s : Sheet) (h : (let a = c.args in
+    SuffixPre s a.plan.now a.units.now a.rows.now a.bar a.r a.i a.k a.l a.left a.from 0 a.y a.v))
+    → (let a = c.args in
+    PassedAs s c.passed-d.new.rows (parts_at s a.l a.left (drop a.i h.parts.divides.parts)) a.y a.v 3 c.passed-d.result)
+three c s h =
+    let zero-here : (s : Sheet) (h : (let a = c.args in
+    SuffixPre s a.plan.now a.units.now a.rows.now a.bar a.r a.i a.k a.l a.left a.from 0 a.y a.v))
+    → (let a = c.args in
+    PassedAs s c.passed-a.new.rows (parts_at s a.l a.left (drop a.i h.parts.divides.parts)) a.y a.v 0 c.passed-a.result) =
+    λ s h. c.passed-a.ensures s h in
+    let one-here : (s : Sheet) (h : (let a = c.args in
+    SuffixPre s a.plan.now a.units.now a.rows.now a.bar a.r a.i a.k a.l a.left a.from 0 a.y a.v))
+    → (let a = c.args in
+    PassedAs s c.passed-b.new.rows (parts_at s a.l a.left (drop a.i h.parts.divides.parts)) a.y a.v 1 c.passed-b.result) =
+    λ s h. c.passed-b.ensures s (suffix_from h _ 1 (omega arith) (zero-here s h).sound) in
+    let two-here : (s : Sheet) (h : (let a = c.args in
+    SuffixPre s a.plan.now a.units.now a.rows.now a.bar a.r a.i a.k a.l a.left a.from 0 a.y a.v))
+    → (let a = c.args in
+    PassedAs s c.passed-c.new.rows (parts_at s a.l a.left (drop a.i h.parts.divides.parts)) a.y a.v 2 c.passed-c.result) =
+    λ s h. c.passed-c.ensures s (suffix_from h _ 2 (omega arith) (one-here s h).sound) in
+    c.passed-d.ensures s (suffix_from h _ 3 (omega arith) (two-here s h).sound)
 
 -- no part is left
 pub returns-then-k-i : goal.returns-then-k-i

@@ -8,14 +8,14 @@ pub slice_bounds-figures-end : goal.slice_bounds-figures-end
 slice_bounds-figures-end c =
     let (s, entry, lengths) = c.requires in
     nodes_fit entry _ _ _ _
-    (subst (Searched s c.args.tree.now _ c.args.work.now _) c.found-1.given.1
+    (subst (Searched s c.args.tree.now _ c.args.work.now _) c.in-Tree.is
     (c.least_tree-found.ensures s entry lengths))
 
 pub slice_bounds-figures-end-in-Tree : goal.slice_bounds-figures-end-in-Tree
 slice_bounds-figures-end-in-Tree c =
     let (s, entry, lengths) = c.requires in
     front_size entry _ _ _ _
-    (subst (Searched s c.args.tree.now _ c.args.work.now _) c.found-1.given.1
+    (subst (Searched s c.args.tree.now _ c.args.work.now _) c.in-Tree.is
     (c.least_tree-found.ensures s entry lengths))
 
 pub figures-requires : goal.figures-requires
@@ -25,20 +25,20 @@ figures-requires c =
       _,
       _,
       figures_pre entry _ _ _ _
-          (subst (Searched s c.args.tree.now _ c.args.work.now _) c.found-1.given.1
+          (subst (Searched s c.args.tree.now _ c.args.work.now _) c.in-Tree.is
           (c.least_tree-found.ensures s entry lengths)),
     )
 
 pub returns-in-NoTree : goal.returns-in-NoTree
 returns-in-NoTree c =
     λ s entry lengths. nothing_found entry _ _
-    (subst (Searched s c.args.tree.now _ c.args.work.now _) c.enum_told-1.given.1
+    (subst (Searched s c.args.tree.now _ c.args.work.now _) c.in-NoTree.is
     (c.least_tree-found.ensures s entry lengths)) _
     c.refused.ensures
 
 pub returns-in-Tree : goal.returns-in-Tree
 returns-in-Tree c =
     λ s entry lengths.
-    let told = subst (Searched s c.args.tree.now _ c.args.work.now _) c.found-1.given.1
+    let told = subst (Searched s c.args.tree.now _ c.args.work.now _) c.in-Tree.is
     (c.least_tree-found.ensures s entry lengths) in
     tree_found entry _ _ _ _ told _ (c.figures.ensures s _ _ (figures_pre entry _ _ _ _ told))

@@ -8,20 +8,18 @@ use Rattle.sizes.specs.Held.{length_table}
 use Rattle.search.specs.Clauses.{SearchPre}
 use Rattle.finding.proofs.FindSteps.{counts, short_work, short_tree, search_pre}
 use borrow.Author.Rules.{rules}
+use Rattle.finding.proofs.find_sheet.Goals.{Else-tree-tree_bytes}
 use Rattle.finding.proofs.find_sheet.Goals as goal
 
 -- the tree may be searched, and the lengths are known
-entry : (c : tie.Else2) (s : Sheet) → let a = (start_of c).args in
+entry : (c : Else-tree-tree_bytes) (s : Sheet) → let a = c.args in
     SheetHeld s a.grammar a.playing
     → SearchPre s a.grammar a.playing a.tree.now a.work.now
-    × ((lengths-place c).lengths.result ≡ length_table (lengths_of s.grammar.rules))
+    × (c.lengths-reached.result ≡ length_table (lengths_of s.grammar.rules))
 entry c s h =
-    let at-tree-bytes = c.before in
-    let at-if1 = at-tree-bytes.before in
-    let at_cells = at-if1.before in
-    let told = (lengths-place c).lengths.ensures.1 in (
-      search_pre h _ _ _ told _ at_cells.work-cells-by.ensures at-if1.if1.false _ at-tree-bytes.tree-bytes.ensures
-          c.if2.false,
+    let told = c.lengths-reached.ensures.1 in (
+      search_pre h _ _ _ told _ c.work_cells_by.ensures c.if-work-work_cells_by.false _ c.tree_bytes.ensures
+          c.if-tree-tree_bytes.false,
       told s.grammar h.good.rules h.grammar,
     )
 

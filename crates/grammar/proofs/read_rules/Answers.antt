@@ -1,7 +1,6 @@
 use borrow.Author.Rules.{rules}
 use native.Mathlib.Omega.{arith}
-use Prim.Native.Nat.{ℕ, ◌≤◌, ◌<◌}
-use mathlib.Core.List.{List}
+use Prim.Native.Nat.{◌≤◌, ◌<◌}
 use mathlib.Core.Path.{refl}
 use native.Mathlib.Nat.{le_trans, le_of_eq}
 use lib.ListN.{drop}
@@ -12,27 +11,17 @@ use Rattle.sheet.specs.Rest.{rest_held}
 use Rattle.grammar.specs.Clauses.{arity_of}
 use Rattle.grammar.proofs.RuleLoop.{rules_none, rules_end, rules_bad, rules_early, rules_done, rules_stop}
 use Rattle.grammar.proofs.RuleLoop.{rules_more, rules_refused, rule_fits}
+use Rattle.grammar.proofs.read_rules.Goals.{Else-number-ne0}
 use Rattle.grammar.proofs.read_rules.Goals as goal
 
-abbrev bytes_of : tie.Else3 invariant-loop decreases-loop → List ℕ
-bytes_of c =
-    let at-loop = (line-place c).before.before in
-    line_bytes (drop at-loop.loop.at at-loop.before.before.args.text.now)
-
-fits : (c : tie.Else3 invariant-loop decreases-loop)
-    → ((line-place c).before.before.loop.table.count < 64)
-    × (arity_of (bytes_of c) ≤ 8) × ((line-place c).line_at_lem.result.count ≤ 13)
+fits : (c : Else-number-ne0)
+    → (c.loop-at.table.count < 64)
+    × (arity_of ((line_bytes (drop c.loop-at.at c.args.text.now))) ≤ 8) × (c.line_at-l.result.count ≤ 13)
 fits c =
-    let at-if3 = c in
-    let at-refusal = at-if3.before in
-    let at-if2 = at-refusal.before in
-    let at-if1 = at-if2.before.before in
-    let at-line = at-if1.before.before in
-    let at-loop = at-line.before.before in
-    let line = at-line.line_at_lem.ensures in
-    let filled = at-if1.if1.false in
-    rule_fits _ _ (search rules) _ line filled _ _ _ (at-refusal.rule-refusal.ensures _ (rest_held _ _ (search rules) _ line filled))
-    at-if3.if3.false
+    let line = c.line_at-l.ensures in
+    let filled = c.if-l-eq0.false in
+    rule_fits _ _ (search rules) _ line filled _ _ _ (c.rule_refusal-number.ensures _ (rest_held _ _ (search rules) _ line filled))
+    c.if-number-ne0.false
 
 pub loop-at-init : goal.loop-at-init
 loop-at-init c =

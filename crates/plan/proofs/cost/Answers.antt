@@ -6,11 +6,11 @@ use Rattle.plan.proofs.cost.Goals as goal
 
 pub overflow_mul-result : goal.overflow_mul-result
 overflow_mul-result c =
-    omega (arith, cost_most c.requires.1.0 _ c.requires.1.1 c.rule-1.given.0.1.0 (search rules))
+    omega (arith, cost_most c.requires.1.0 _ c.requires.1.1 c.in-Division.weight (search rules))
 
 pub overflow_mul-result-in-Leaf : goal.overflow_mul-result-in-Leaf
 overflow_mul-result-in-Leaf c =
-    omega (arith, cost_most c.requires.1.0 _ c.requires.1.1 c.rule-in-Leaf-1.given.0.1.0 (search rules))
+    omega (arith, cost_most c.requires.1.0 _ c.requires.1.1 c.in-Leaf.weight (search rules))
 
 pub returns-in-Division : goal.returns-in-Division
 returns-in-Division c =

@@ -12,14 +12,13 @@ returns-then-k-gt8 c =
     (omega arith, λ s p _. no_arity s _ c.args.l c.args.k p (λ a b. omega (arith, c.if-k-gt8.true)))
 
 pub returns-then-plan-part : goal.returns-then-plan-part
-returns-then-plan-part c =
-    (
-      omega arith,
-      λ s p within.
-          no_part s _ c.args.l c.args.k p within (omega (arith, c.if-k-lt2.false)) (omega
-          (arith, c.if-k-gt8.false))
-          c.if-plan-part.true,
-    )
+returns-then-plan-part c = (
+  omega arith,
+  λ s p within.
+      no_part s _ c.args.l c.args.k p within (omega (arith, c.if-k-lt2.false)) (omega
+      (arith, c.if-k-gt8.false))
+      c.if-plan-part.true,
+)
 
 pub returns : goal.returns
 returns c =

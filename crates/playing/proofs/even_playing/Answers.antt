@@ -17,6 +17,7 @@ use Rattle.sheet.specs.GoodBars.{even_good}
 use Rattle.bar_lines.specs.Lines.{lines_in}
 use Rattle.playing.specs.Clauses.{TakeRead}
 use Rattle.playing.proofs.HeadLine.{head_held, head_within, head_passed, head_on}
+use Rattle.playing.proofs.even_playing.Goals.{Start}
 use Rattle.playing.proofs.even_playing.Goals as goal
 
 -- what is left has a number
@@ -24,8 +25,8 @@ left : {number : ℕ} → number ≡ 255 → number ≡ 0 → ⊥
 left e z = omega (arith, e, z)
 
 -- the line as it is held
-held : (s : tie.Start) → LineHeld s.args.l (line_bytes (drop s.args.at s.args.text.now))
-held s = head_held s.args.text.now s.args.at s.requires.1 _ s.requires.2 s.requires.3
+held : (c : Start) → LineHeld c.args.l (line_bytes (drop c.args.at c.args.text.now))
+held c = head_held c.args.text.now c.args.at c.requires.1 _ c.requires.2 c.requires.3
 
 module _ (c : tie.After-four-at) where
   abbrev s : tie.Start

@@ -6,18 +6,22 @@ use Rattle.hextext.specs.Laws.{line_falls}
 use Rattle.hextext.specs.PackedLaws.{line_next}
 use Rattle.playing.specs.Clauses.{StepTaken}
 use Rattle.playing.proofs.OnsetLoop.{onsets_none, renumbered, onsets_room, onsets_more, take_done}
+use Rattle.playing.proofs.read_even.Goals.{Else-step-ne0}
 use Rattle.playing.proofs.read_even.Goals as goal
 
-taken : (c : tie.Else1 invariant-loop decreases-loop) → StepTaken (line_of c).before.before.before.before.before.before.args.lines.now
-    (line_of c).before.before.before.before.before.before.args.clock (line_of c).before.before.loop.n
-    (line_of c).before.before.loop.latest (line_of c).seven_at.result c.before.before.even_step.result
-taken c = c.before.before.even_step.ensures c.if1.false _ (line_of c).before.before.before.before.before.before.requires.2
+taken : (c : Else-step-ne0) → StepTaken c.args.lines.now
+    c.args.clock c.loop-at.n
+    c.loop-at.latest c.seven_at-l.result c.even_step-step.result
+taken c = c.even_step-step.ensures c.if-step-ne0.false _ c.requires.2
 
-room : (c : tie.Else1 invariant-loop decreases-loop) → (line_of c).before.before.loop.n < 512
+room : (c : Else-step-ne0) → c.loop-at.n < 512
 room c =
-    let at-line = line_of c in
-    onsets_room (at-line.before.before.loop.inv 1 (omega arith) (omega arith)) (search rules) _ at-line.seven_at.ensures
-    (taken c).filled _ (taken c).step c.if1.false
+    let taken-here : StepTaken c.args.lines.now
+    c.args.clock c.loop-at.n
+    c.loop-at.latest c.seven_at-l.result c.even_step-step.result =
+    c.even_step-step.ensures c.if-step-ne0.false _ c.requires.2 in
+    onsets_room (c.loop-at.invariant 1 (omega arith) (omega arith)) (search rules) _ c.seven_at-l.ensures
+    (taken-here).filled _ (taken-here).step c.if-step-ne0.false
 
 pub loop-at-init : goal.loop-at-init
 loop-at-init c line few pos =

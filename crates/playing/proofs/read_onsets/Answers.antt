@@ -6,21 +6,19 @@ use Rattle.hextext.specs.Laws.{line_falls}
 use Rattle.hextext.specs.PackedLaws.{line_next}
 use Rattle.playing.proofs.OnsetLoop.{onsets_none, latest_in, onsets_bad, onsets_stop, onsets_room, onsets_more, onsets_missing}
 use Rattle.playing.proofs.OnsetLoop.{take_done, take_refused}
+use Rattle.playing.proofs.read_onsets.Goals.{After-line_at-l, Else-number-ne0}
 use Rattle.playing.proofs.read_onsets.Goals as goal
 
 -- a line's number is at most its place and one
-few-lines : (c : tie.After-line-at invariant-loop decreases-loop) → c.before.before.loop.line < 18446744073709551615
-few-lines c = omega (arith, c.before.before.loop.invariant.line)
+few-lines : (c : After-line_at-l) → c.loop-at.line < 18446744073709551615
+few-lines c = omega (arith, c.loop-at.invariant.line)
 
 -- where a line is taken as an onset there is room for it
-room : (c : tie.Else2 invariant-loop decreases-loop) → c.before.before.before.before.before.before.loop.n < 512
+room : (c : Else-number-ne0) → c.loop-at.n < 512
 room c =
-    let at_step = c.before in
-    let at-if1 = at_step.before in
-    let at-line = at-if1.before.before in
-    let loop = at-line.before.before.loop in
-    onsets_room loop.invariant (search rules) _ at-line.line_at_lem.ensures at-if1.if1.false at_step.onset-step.result
-    at_step.onset-step.ensures c.if2.false
+    let loop = c.loop-at in
+    onsets_room loop.invariant (search rules) _ c.line_at-l.ensures c.if-l-eq0.false c.onset_step-step.result
+    c.onset_step-step.ensures c.if-number-ne0.false
 
 pub loop-at-init : goal.loop-at-init
 loop-at-init c =

@@ -15,16 +15,18 @@ use Rattle.bar_lines.specs.Lines.{lines_in, bars_next}
 use Rattle.playing.specs.Clauses.{TakeRead}
 use Rattle.playing.proofs.OnsetLoop.{take_refused}
 use Rattle.playing.proofs.HeadLine.{head_held, head_within, head_refused, head_passed, head_on}
+use Rattle.playing.proofs.read_playing.Goals.{After-four_at, Start}
 use Rattle.playing.proofs.read_playing.Goals as goal
 
 -- the line as it is held
-held : (s : tie.Start) → LineHeld s.args.l (line_bytes (drop s.args.at s.args.text.now))
-held s = let pre = s.requires in head_held s.args.text.now s.args.at pre.1 _ pre.4 pre.5
+held : (c : Start) → LineHeld c.args.l (line_bytes (drop c.args.at c.args.text.now))
+held c = let pre = c.requires in head_held c.args.text.now c.args.at pre.1 _ pre.4 pre.5
 
-met : (c : tie.After-four-at) → playing_refusal (line_bytes (drop (start_of c).args.at (start_of c).args.text.now)) ≡ 0
+met : (c : After-four_at) → playing_refusal (line_bytes (drop c.args.at c.args.text.now)) ≡ 0
 met c =
-    let at-if1 = c.before.before in
-    sym (at-if1.before.playing-refusal.ensures _ (held (start_of c))) ∙ at-if1.if1.false
+    let held-here : LineHeld c.args.l (line_bytes (drop c.args.at c.args.text.now)) =
+    let pre = c.requires in head_held c.args.text.now c.args.at pre.1 _ pre.4 pre.5 in
+    sym (c.playing_refusal-number.ensures _ (held-here)) ∙ c.if-number-ne0.false
 
 -- what the `45` line comes to is what the bar lines behind it come to
 module _ (c : tie.After-read-bars) (g : Grammar) (some : 1 ≤ length g.rules) (kind : (start_of c.before).args.l.kind ≡ 0x45) where

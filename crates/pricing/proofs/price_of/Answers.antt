@@ -11,26 +11,26 @@ use Rattle.pricing.proofs.price_of.Goals as goal
 -- the list is not read to its end
 pub returns-then-p-nodes : goal.returns-then-p-nodes
 returns-then-p-nodes c =
-    λ s list h n a. c.refused-then-p-nodes.ensures ∙ ap priced_of (sym (rules_left s list _ (subst (BarsWalked s list) c.w-1.given.1 h)
+    λ s list h n a. c.refused-then-p-nodes.ensures ∙ ap priced_of (sym (rules_left s list _ (subst (BarsWalked s list) c.in-Upto.is h)
     (λ e. c.if-p-nodes.true (e ∙ n))))
 
 -- onsets are carried out
 pub returns-then-p-ne0 : goal.returns-then-p-ne0
 returns-then-p-ne0 c =
-    λ s list h n a. c.refused-then-p-ne0.ensures ∙ ap priced_of (sym (onsets_left s list _ (subst (BarsWalked s list) c.w-1.given.1 h)
+    λ s list h n a. c.refused-then-p-ne0.ensures ∙ ap priced_of (sym (onsets_left s list _ (subst (BarsWalked s list) c.in-Upto.is h)
     (c.if-p-nodes.false ∙ sym n) c.if-p-ne0.true))
 
 pub overflow_mul-result : goal.overflow_mul-result
 overflow_mul-result c =
     let q = c.requires in
-    let t = total_fits q.0 q.1 _ (subst (BarsWalked q.0 q.1) c.w-1.given.1 q.2.0) c.args.multiplier
+    let t = total_fits q.0 q.1 _ (subst (BarsWalked q.0 q.1) c.in-Upto.is q.2.0) c.args.multiplier
     (search rules) in
     record { fits = omega arith }
 
 pub overflow_add-result : goal.overflow_add-result
 overflow_add-result c =
     let q = c.requires in
-    let t = total_fits q.0 q.1 _ (subst (BarsWalked q.0 q.1) c.w-1.given.1 q.2.0) c.args.multiplier
+    let t = total_fits q.0 q.1 _ (subst (BarsWalked q.0 q.1) c.in-Upto.is q.2.0) c.args.multiplier
     (search rules) in
     record { fits = omega arith }
 
@@ -44,5 +44,5 @@ returns-in-Stuck c =
 -- it is a tree
 pub returns-else-p-ne0 : goal.returns-else-p-ne0
 returns-else-p-ne0 c =
-    λ s list h n a. tree_answer s list _ (subst (BarsWalked s list) c.w-1.given.1 h) (c.if-p-nodes.false ∙ sym n)
+    λ s list h n a. tree_answer s list _ (subst (BarsWalked s list) c.in-Upto.is h) (c.if-p-nodes.false ∙ sym n)
     c.if-p-ne0.false _ _ n a

@@ -2,9 +2,7 @@
 -- ---- where the start nonterminals of the bars are a slice
 -- ---- where they are read
 -- ---- the needs
-use Prim.Native.Nat.{ℕ}
 use mathlib.Core.Path.{refl, sym, ap, ◌∙◌}
-use mathlib.Core.List.{List}
 use native.Mathlib.Omega.{arith}
 use lib.ListN.{take, replicate}
 use lib.Seq.{length-take-le}
@@ -14,27 +12,23 @@ use Rattle.expansions.specs.Items.{interval}
 use Rattle.pricing.specs.Pricing.{priced_of}
 use Rattle.pricing.specs.Clauses.{ForestPre, BarsWalked, unread}
 use Rattle.pricing.proofs.BarSteps.{counts_small, too_long, bars_entry, bars_walked, multiplier_is}
+use Rattle.pricing.proofs.price_sheet.Goals.{After-pack_units-units, After-read_forest-w}
 use Rattle.pricing.proofs.price_sheet.Goals as goal
 
-abbrev kids-of : tie.After-starts → List ℕ
-kids-of c = take (start_of c).args.playing.bars (replicate 64 (start_of c).args.t1.start)
-
--- a sheet that the tables hold: its bars may be read
-abbrev Held : tie.After-starts → Sheet → Type 0
-Held c s = SheetHeld s (start_of c).args.t1 (start_of c).args.playing
-
-entry : (c : tie.After-starts) (s : Sheet) → Held c s → let at-units = units-place c in
-    ForestPre s at-units.before.pack-rules.result (start_of c).args.t1.children at-units.pack-units.result
-    (start_of c).args.list.now (kids-of c) (interval 0 20160) unread
+entry : (c : After-pack_units-units) (s : Sheet) → (SheetHeld s c.args.grammar c.args.playing) → ForestPre s c.pack_rules-rules.result c.args.grammar.children c.pack_units-units.result
+    c.args.list.now ((take c.args.playing.bars (replicate 64 c.args.grammar.start))) (interval 0 20160) unread
 entry c s h =
-    let at-units = units-place c in
-    let at-rules = at-units.before in
-    bars_entry h _ _ _ _ (at-rules.pack-rules.ensures _ h.grammar) (at-units.pack-units.ensures _ h.good.onsets h.playing)
-    (omega (arith, at-rules.before.if1.left)) refl
+    bars_entry h _ _ _ _ (c.pack_rules-rules.ensures _ h.grammar) (c.pack_units-units.ensures _ h.good.onsets h.playing)
+    (omega (arith, c.if-count-playing.left)) refl
 
-walked : (c : tie.After-read-forest) (s : Sheet) → Held c.before s
-    → BarsWalked s (start_of c.before).args.list.now c.read-forest.result
-walked c s h = bars_walked h _ (kids-of c.before) refl c.read-forest.result (c.read-forest.ensures s (entry c.before s h))
+walked : (c : After-read_forest-w) (s : Sheet) → (SheetHeld s c.args.grammar c.args.playing)
+    → BarsWalked s c.args.list.now c.read_forest-w.result
+walked c s h =
+    let entry-here : (s : Sheet) → (SheetHeld s c.args.grammar c.args.playing) → ForestPre s c.pack_rules-rules.result c.args.grammar.children c.pack_units-units.result
+    c.args.list.now ((take c.args.playing.bars (replicate 64 c.args.grammar.start))) (interval 0 20160) unread =
+    λ s h. bars_entry h _ _ _ _ (c.pack_rules-rules.ensures _ h.grammar) (c.pack_units-units.ensures _ h.good.onsets h.playing)
+    (omega (arith, c.if-count-playing.left)) refl in
+    bars_walked h _ ((take c.args.playing.bars (replicate 64 c.args.grammar.start))) refl c.read_forest-w.result (c.read_forest-w.ensures s (entry-here s h))
 
 pub overflow_mul-playing : goal.overflow_mul-playing
 overflow_mul-playing c =
@@ -69,7 +63,7 @@ slice_bounds-read_forest-end-2 c =
 
 pub read_forest-w-requires : goal.read_forest-w-requires
 read_forest-w-requires c =
-    (c.requires.0, entry (goal.at.read_forest-w-requires c).After-starts-1 _ c.requires.1)
+    (c.requires.0, entry (goal.at.read_forest-w-requires c).After-pack_units-units _ c.requires.1)
 
 pub price_of-requires : goal.price_of-requires
 price_of-requires c =

@@ -16,9 +16,8 @@ returns-then-l-ne71 c =
 -- a `47` line
 pub returns : goal.returns
 unfolding refusal
-returns c =
-    (
-      λ e. absurd (c.if-l-eq0.false e),
-      λ filled b held.
-          c.head_refusal.ensures b held ∙ simp (eq-eqb _ 0x47 (sym held.kind ∙ c.if-l-ne71.false)),
-    )
+returns c = (
+  λ e. absurd (c.if-l-eq0.false e),
+  λ filled b held.
+      c.head_refusal.ensures b held ∙ simp (eq-eqb _ 0x47 (sym held.kind ∙ c.if-l-ne71.false)),
+)

@@ -2,10 +2,8 @@
 -- ---- where the rules have been read
 -- ---- where the playing has been read
 use native.Mathlib.Omega.{arith}
-use Prim.Native.Nat.{ℕ}
 use mathlib.Core.Path.{◌≡◌, sym, ap, ◌∙◌}
 use native.Mathlib.Nat.{le_trans, le_of_eq}
-use mathlib.Core.List.{List}
 use lib.ListN.{drop}
 use Rattle.hextext.specs.Text.{line_bytes}
 use Rattle.hextext.specs.Laws.{line_within, line_size_pos}
@@ -18,59 +16,127 @@ use Rattle.playing.specs.declared.Take.{Take}
 use Rattle.playing.specs.Clauses.{PlayingRead, TakeRead}
 use Rattle.reading.proofs.FirstLine.{Taken, first_refused, first_taken}
 use borrow.Author.Rules.{rules}
+use Rattle.reading.proofs.read_lines.Goals.{After-even_playing-even, After-read_playing-take, After-read_rules-rules}
 use Rattle.reading.proofs.read_lines.Goals as goal
 
-abbrev text_of : tie.After-read-rules → List ℕ
-text_of c = (line-place c).before.before.args.text.now
-
--- the bytes of the first line
-abbrev bytes_of : tie.After-read-rules → List ℕ
-bytes_of c = line_bytes (drop 0 (text_of c))
-
 -- it is not refused
-first : (c : tie.After-read-rules) → Taken (text_of c) (line-place c).line_at_lem.result
+first : (c : After-read_rules-rules) → Taken (c.args.text.now) c.line_at-head.result
 first c =
-    let line = (line-place c).line_at_lem in
-    let number = (refusal-place c).first-refusal in
-    first_taken (text_of c) (line-place c).before.before.requires.1 _ line.ensures _ number.ensures.0 number.ensures.1
-    c.before.before.if1.false
+    let line = c.line_at-head in
+    let number = c.first_refusal-head_number in
+    first_taken (c.args.text.now) c.requires.1 _ line.ensures _ number.ensures.0 number.ensures.1
+    c.if-head_number-ne0.false
 
 -- the rules are read from where it ends, and so is the rest of the text
-rules : (c : tie.After-read-rules)
-    → RulesRead (text_of c) (line-place c).line_at_lem.result.next 2 (head_of (bytes_of c)) c.read-rules.result
-rules c = c.read-rules.ensures _ (first c).well_formed (c.before.head_of.ensures _ (first c).held)
+rules : (c : After-read_rules-rules) → RulesRead (c.args.text.now) c.line_at-head.result.next 2 (head_of ((line_bytes (drop 0 (c.args.text.now))))) c.read_rules-rules.result
+rules c =
+    let first-here : Taken (c.args.text.now) c.line_at-head.result =
+    let line = c.line_at-head in
+    let number = c.first_refusal-head_number in
+    first_taken (c.args.text.now) c.requires.1 _ line.ensures _ number.ensures.0 number.ensures.1
+    c.if-head_number-ne0.false in
+    c.read_rules-rules.ensures _ (first-here).well_formed (c.head_of.ensures _ (first-here).held)
 
-done : (c : tie.After-even-playing)
-    → RulesDone (text_of (rules-place c)) (line-place (rules-place c)).line_at_lem.result.next 2 (head_of (bytes_of (rules-place c)))
-    (rules-place c).read-rules.result
-done c = (rules (rules-place c)).done c.before.if2.false
+done : (c : After-even_playing-even) → RulesDone (c.args.text.now) c.line_at-head.result.next 2 (head_of ((line_bytes (drop 0 (c.args.text.now)))))
+    c.read_rules-rules.result
+done c =
+    let first-here : Taken (c.args.text.now) c.line_at-head.result =
+    let line = c.line_at-head in
+    let number = c.first_refusal-head_number in
+    first_taken (c.args.text.now) c.requires.1 _ line.ensures _ number.ensures.0 number.ensures.1
+    c.if-head_number-ne0.false in
+    let rules-here : RulesRead (c.args.text.now) c.line_at-head.result.next 2 (head_of ((line_bytes (drop 0 (c.args.text.now))))) c.read_rules-rules.result =
+    c.read_rules-rules.ensures _ (first-here).well_formed (c.head_of.ensures _ (first-here).held) in
+    (rules-here).done c.if-rules_number-ne0.false
 
--- a playing that is read behind them is what the text comes to
-abbrev TakenAs : tie.After-even-playing → Take → Type 0
-TakenAs c r = TakeRead (text_of (rules-place c)) (read_rest nothing 1 (text_of (rules-place c))) (done c).grammar r
+take_at : (c : After-even_playing-even) (r : Take)
+    → PlayingRead (c.args.text.now) c.read_rules-rules.result.at c.read_rules-rules.result.line
+    c.read_rules-rules.result.end (done-here).grammar r → let first-here : Taken (c.args.text.now) c.line_at-head.result =
+    let line = c.line_at-head in
+    let number = c.first_refusal-head_number in
+    first_taken (c.args.text.now) c.requires.1 _ line.ensures _ number.ensures.0 number.ensures.1
+    c.if-head_number-ne0.false in
+    let rules-here : RulesRead (c.args.text.now) c.line_at-head.result.next 2 (head_of ((line_bytes (drop 0 (c.args.text.now))))) c.read_rules-rules.result =
+    c.read_rules-rules.ensures _ (first-here).well_formed (c.head_of.ensures _ (first-here).held) in
+    let done-here : RulesDone (c.args.text.now) c.line_at-head.result.next 2 (head_of ((line_bytes (drop 0 (c.args.text.now)))))
+    c.read_rules-rules.result =
+    (rules-here).done c.if-rules_number-ne0.false in
+    (TakeRead (c.args.text.now) (read_rest nothing 1 (c.args.text.now)) (done-here).grammar r)
+take_at c r h =
+    let first-here : Taken (c.args.text.now) c.line_at-head.result =
+    let line = c.line_at-head in
+    let number = c.first_refusal-head_number in
+    first_taken (c.args.text.now) c.requires.1 _ line.ensures _ number.ensures.0 number.ensures.1
+    c.if-head_number-ne0.false in
+    let rules-here : RulesRead (c.args.text.now) c.line_at-head.result.next 2 (head_of ((line_bytes (drop 0 (c.args.text.now))))) c.read_rules-rules.result =
+    c.read_rules-rules.ensures _ (first-here).well_formed (c.head_of.ensures _ (first-here).held) in
+    let done-here : RulesDone (c.args.text.now) c.line_at-head.result.next 2 (head_of ((line_bytes (drop 0 (c.args.text.now)))))
+    c.read_rules-rules.result =
+    (rules-here).done c.if-rules_number-ne0.false in
+    let d = done-here in rw ((first-here).on ∙ d.rest) (h d.good d.some_rule d.kind)
 
-take_at : (c : tie.After-even-playing) (r : Take)
-    → PlayingRead (text_of (rules-place c)) (rules-place c).read-rules.result.at (rules-place c).read-rules.result.line
-    (rules-place c).read-rules.result.end (done c).grammar r → TakenAs c r
-take_at c r h = let d = done c in rw ((first (rules-place c)).on ∙ d.rest) (h d.good d.some_rule d.kind)
-
-take : (c : tie.After-read-playing) → TakenAs (left-place c) c.read-playing.result
-take c = take_at (left-place c) _ (c.read-playing.ensures (done (left-place c)).grammar)
+take : (c : After-read_playing-take) → let first-here : Taken (c.args.text.now) c.line_at-head.result =
+    let line = c.line_at-head in
+    let number = c.first_refusal-head_number in
+    first_taken (c.args.text.now) c.requires.1 _ line.ensures _ number.ensures.0 number.ensures.1
+    c.if-head_number-ne0.false in
+    let rules-here : RulesRead (c.args.text.now) c.line_at-head.result.next 2 (head_of ((line_bytes (drop 0 (c.args.text.now))))) c.read_rules-rules.result =
+    c.read_rules-rules.ensures _ (first-here).well_formed (c.head_of.ensures _ (first-here).held) in
+    let done-here : RulesDone (c.args.text.now) c.line_at-head.result.next 2 (head_of ((line_bytes (drop 0 (c.args.text.now)))))
+    c.read_rules-rules.result =
+    (rules-here).done c.if-rules_number-ne0.false in
+    (TakeRead (c.args.text.now) (read_rest nothing 1 (c.args.text.now)) (done-here).grammar c.read_playing-take.result)
+take c =
+    let first-here : Taken (c.args.text.now) c.line_at-head.result =
+    let line = c.line_at-head in
+    let number = c.first_refusal-head_number in
+    first_taken (c.args.text.now) c.requires.1 _ line.ensures _ number.ensures.0 number.ensures.1
+    c.if-head_number-ne0.false in
+    let rules-here : RulesRead (c.args.text.now) c.line_at-head.result.next 2 (head_of ((line_bytes (drop 0 (c.args.text.now))))) c.read_rules-rules.result =
+    c.read_rules-rules.ensures _ (first-here).well_formed (c.head_of.ensures _ (first-here).held) in
+    let done-here : RulesDone (c.args.text.now) c.line_at-head.result.next 2 (head_of ((line_bytes (drop 0 (c.args.text.now)))))
+    c.read_rules-rules.result =
+    (rules-here).done c.if-rules_number-ne0.false in
+    let take_at-here : (r : Take)
+    → PlayingRead (c.args.text.now) c.read_rules-rules.result.at c.read_rules-rules.result.line
+    c.read_rules-rules.result.end (done-here).grammar r → (TakeRead (c.args.text.now) (read_rest nothing 1 (c.args.text.now)) (done-here).grammar r) =
+    λ r h. let d = done-here in rw ((first-here).on ∙ d.rest) (h d.good d.some_rule d.kind) in
+    take_at-here _ (c.read_playing-take.ensures (done-here).grammar)
 
 -- the reading of a playing that is not refused
-reading-of : (c : tie.After-even-playing) (r : Take) → TakenAs c r → r.number ≡ 0
-    → record {
+reading-of : (c : After-even_playing-even) (r : Take) → (TakeRead (c.args.text.now) (read_rest nothing 1 (c.args.text.now)) (done-here).grammar r) → r.number ≡ 0
+    → let first-here : Taken (c.args.text.now) c.line_at-head.result =
+    let line = c.line_at-head in
+    let number = c.first_refusal-head_number in
+    first_taken (c.args.text.now) c.requires.1 _ line.ensures _ number.ensures.0 number.ensures.1
+    c.if-head_number-ne0.false in
+    let rules-here : RulesRead (c.args.text.now) c.line_at-head.result.next 2 (head_of ((line_bytes (drop 0 (c.args.text.now))))) c.read_rules-rules.result =
+    c.read_rules-rules.ensures _ (first-here).well_formed (c.head_of.ensures _ (first-here).held) in
+    let done-here : RulesDone (c.args.text.now) c.line_at-head.result.next 2 (head_of ((line_bytes (drop 0 (c.args.text.now)))))
+    c.read_rules-rules.result =
+    (rules-here).done c.if-rules_number-ne0.false in
+    record {
       number = 0;
       line = 0;
       timing = r.timing;
-      grammar = (rules-place c).read-rules.result.grammar;
+      grammar = c.read_rules-rules.result.grammar;
       playing = r.playing;
     }
-    ≡ reading_of (read_rest nothing 1 (text_of (rules-place c)))
+    ≡ reading_of (read_rest nothing 1 (c.args.text.now))
 unfolding reading_of
 reading-of c r h z =
+    let first-here : Taken (c.args.text.now) c.line_at-head.result =
+    let line = c.line_at-head in
+    let number = c.first_refusal-head_number in
+    first_taken (c.args.text.now) c.requires.1 _ line.ensures _ number.ensures.0 number.ensures.1
+    c.if-head_number-ne0.false in
+    let rules-here : RulesRead (c.args.text.now) c.line_at-head.result.next 2 (head_of ((line_bytes (drop 0 (c.args.text.now))))) c.read_rules-rules.result =
+    c.read_rules-rules.ensures _ (first-here).well_formed (c.head_of.ensures _ (first-here).held) in
+    let done-here : RulesDone (c.args.text.now) c.line_at-head.result.next 2 (head_of ((line_bytes (drop 0 (c.args.text.now)))))
+    c.read_rules-rules.result =
+    (rules-here).done c.if-rules_number-ne0.false in
     let t = h.done z in
-    (λ j. record { number = 0; line = 0; timing = t.timing_table_lem j; grammar = (done c).table j; playing = t.table j })
+    (λ j. record { number = 0; line = 0; timing = t.timing_table_lem j; grammar = (done-here).table j; playing = t.table j })
     ∙ ap reading_of (sym t.sheet)
 
 pub returns-then-head_number-ne0 : goal.returns-then-head_number-ne0
@@ -101,7 +167,7 @@ returns-then-rules_number-ne0 c =
 
 pub even_playing-even-requires : goal.even_playing-even-requires
 even_playing-even-requires c =
-    let d = (rules (goal.at.even_playing-even-requires c).Else-rules_number-ne0).done c.if-rules_number-ne0.false in
+    let d = (rules (goal.at.even_playing-even-requires c).After-read_rules-rules).done c.if-rules_number-ne0.false in
     (c.requires.0, d.inside, d.end, d.filled)
 
 -- bars of one duration, and each line behind the `45` line adds an onset
@@ -114,7 +180,7 @@ returns-then-even-eq0 c =
 
 pub read_playing-take-requires : goal.read_playing-take-requires
 read_playing-take-requires c =
-    let d = done (goal.at.read_playing-take-requires c).After-struct_known-1 in
+    let d = done (goal.at.read_playing-take-requires c).After-even_playing-even in
     (c.requires.0, d.inside, d.line, d.numbered, d.end, d.filled)
 
 pub stopped_at-requires-then-take_number-ne0 : goal.stopped_at-requires-then-take_number-ne0
@@ -127,4 +193,4 @@ returns-then-take_number-ne0 c =
 
 pub returns : goal.returns
 returns c =
-    reading-of (goal.at.returns c).After-struct_known-1 c.read_playing-take.result (take (goal.at.returns c).After-read_playing-take) c.if-take_number-ne0.false
+    reading-of (goal.at.returns c).After-even_playing-even c.read_playing-take.result (take (goal.at.returns c).After-read_playing-take) c.if-take_number-ne0.false

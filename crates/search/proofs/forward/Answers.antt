@@ -1,5 +1,4 @@
 use Rattle.search.proofs.forward.Goals as goal
-
 -- `forward` meets its contract. The invariant of the loop: the rows of the bars before bar b are stored, v is the vector before it, and the
 -- bars before bar `done` are committed (`Going`). A turn fills bar b ahead, stores its rows and takes v over it. Where nothing is carried
 -- over its end, the bars up to there are committed. What is known at each place is in `Places`. Assumes nothing.

@@ -4,9 +4,8 @@
 -- ---- where the cells of the rows are counted
 -- ---- where the rows come back
 -- ---- the needs
-use Prim.Native.Nat.{ℕ, ◌+◌, ◌*◌, ◌≤◌}
+use Prim.Native.Nat.{◌+◌, ◌*◌, ◌≤◌}
 use mathlib.Core.Path.{◌≡◌, refl, sym}
-use mathlib.Core.List.{List}
 use native.Mathlib.Omega.{arith}
 use borrow.Author.Rules.{rules}
 use lib.ListN.{length, take}
@@ -16,21 +15,13 @@ use Rattle.sizes.specs.Sizes.{lengths_of}
 use Rattle.sizes.specs.Held.{length_table}
 use Rattle.search.specs.Clauses.{row_cells, RowCellsPre, ParsePre, SearchPre}
 use Rattle.search.proofs.SearchSteps.{onsets_few, cells_few, cells_fit, cells_all, bars_are, parse_entry, lent_length, searched}
+use Rattle.search.proofs.least_tree.Goals.{After-row_cells-cells, Start}
 use Rattle.search.proofs.least_tree.Goals as goal
 
--- a sheet of which the first least tree is asked for, and its lengths
-abbrev Asked : tie.Start → Sheet → Type 0
-Asked c s =
-    let a = c.args in
-    SearchPre s a.grammar a.playing a.tree.now a.work.now × (a.reached ≡ length_table (lengths_of s.grammar.rules))
-
 -- that of the contract
-asked : (c : tie.Start) → Asked c c.requires.0
+asked : (c : Start) → (let a = c.args in
+    SearchPre c.requires.0 a.grammar a.playing a.tree.now a.work.now × (a.reached ≡ length_table (lengths_of c.requires.0.grammar.rules)))
 asked c = (c.requires.1, c.requires.2)
-
--- the plan, as it was laid
-abbrev plan-of : tie.After-most-in-bar → List ℕ
-plan-of c = (units-place c).before.prepare.new.0
 
 -- the cells of the rows may be counted
 counted : (c : tie.After-most-in-bar) (s : Sheet) → Asked (start_of c) s
@@ -41,28 +32,34 @@ counted c s (h, lengths) = record {
   most_is = c.most-in-bar.ensures.1 s.playing h.held.good.onsets h.held.playing;
 }
 
-abbrev cells_of : tie.After-row-cells → ℕ
-cells_of c = c.row-cells.result
-
-abbrev work-of : tie.After-row-cells → List ℕ
-work-of c = (start-place c).args.work.now
-
 -- they are the sheet's, and the work slice has them
-cells_are : (c : tie.After-row-cells) (s : Sheet) → Asked (start-place c) s → cells_of c ≡ row_cells s
-cells_are c s h = c.row-cells.ensures s (counted c.before s h)
+cells_are : (c : After-row_cells-cells) (s : Sheet) → (let a = c.args in
+    SearchPre s a.grammar a.playing a.tree.now a.work.now × (a.reached ≡ length_table (lengths_of s.grammar.rules))) → c.row_cells-cells.result ≡ row_cells s
+cells_are c s h = c.row_cells-cells.ensures s (counted c s h)
 
-fit : (c : tie.After-row-cells) (s : Sheet) → Asked (start-place c) s → cells_of c ≤ length (work-of c)
-fit c s h = cells_fit h.0 (cells_are c s h)
+fit : (c : After-row_cells-cells) (s : Sheet) → (let a = c.args in
+    SearchPre s a.grammar a.playing a.tree.now a.work.now × (a.reached ≡ length_table (lengths_of s.grammar.rules))) → c.row_cells-cells.result ≤ length (c.args.work.now)
+fit c s h =
+    let cells_are-here : (s : Sheet) → (let a = c.args in
+    SearchPre s a.grammar a.playing a.tree.now a.work.now × (a.reached ≡ length_table (lengths_of s.grammar.rules))) → c.row_cells-cells.result ≡ row_cells s =
+    λ s h. c.row_cells-cells.ensures s (counted c s h) in
+    cells_fit h.0 (cells_are-here s h)
 
 -- so the tree may be searched in them
-entry : (c : tie.After-row-cells) (s : Sheet) → Asked (start-place c) s → let at-units = units-place c.before in
-    let a = (start-place c).args in
-    ParsePre s (plan-of c.before) at-units.pack-units.result (take (cells_of c) (work-of c)) a.tree.now
+entry : (c : After-row_cells-cells) (s : Sheet) → (let a = c.args in
+    SearchPre s a.grammar a.playing a.tree.now a.work.now × (a.reached ≡ length_table (lengths_of s.grammar.rules))) → let a = c.args in
+    ParsePre s (c.prepare.new.plan) c.pack_units-units.result (take (c.row_cells-cells.result) (c.args.work.now)) a.tree.now
     a.grammar.start a.playing.bars
 entry c s h =
+    let cells_are-here : (s : Sheet) → (let a = c.args in
+    SearchPre s a.grammar a.playing a.tree.now a.work.now × (a.reached ≡ length_table (lengths_of s.grammar.rules))) → c.row_cells-cells.result ≡ row_cells s =
+    λ s h. c.row_cells-cells.ensures s (counted c s h) in
+    let fit-here : (s : Sheet) → (let a = c.args in
+    SearchPre s a.grammar a.playing a.tree.now a.work.now × (a.reached ≡ length_table (lengths_of s.grammar.rules))) → c.row_cells-cells.result ≤ length (c.args.work.now) =
+    λ s h. cells_fit h.0 (cells_are-here s h) in
     let held = h.0.held in
-    let units = (units-place c.before).pack-units.ensures s.playing held.good.onsets held.playing in
-    parse_entry h.0 _ _ (cells_of c) _ _ (counted c.before s h).prepared units (cells_are c s h) (fit c s h) refl refl
+    let units = c.pack_units-units.ensures s.playing held.good.onsets held.playing in
+    parse_entry h.0 _ _ (c.row_cells-cells.result) _ _ (counted c s h).prepared units (cells_are-here s h) (fit-here s h) refl refl
 
 pub prepare-requires : goal.prepare-requires
 prepare-requires c =
@@ -87,7 +84,7 @@ slice_bounds-parse-end c =
 
 pub slice_bounds-parse-end-2 : goal.slice_bounds-parse-end-2
 slice_bounds-parse-end-2 c =
-    sym (length-take-le (cells_of (goal.at.slice_bounds-parse-end-2 c).After-row_cells-cells) (work-of (goal.at.slice_bounds-parse-end-2 c).After-row_cells-cells) (fit (goal.at.slice_bounds-parse-end-2 c).After-row_cells-cells _ (asked (goal.at.slice_bounds-parse-end-2 c).Start)))
+    sym (length-take-le (c.row_cells-cells.result) (c.args.work.now) (fit (goal.at.slice_bounds-parse-end-2 c).After-row_cells-cells _ (asked (goal.at.slice_bounds-parse-end-2 c).Start)))
 
 pub parse-found-requires : goal.parse-found-requires
 parse-found-requires c =
@@ -105,12 +102,12 @@ pub clear-requires : goal.clear-requires
 clear-requires c =
     let h = c.requires.1 in
     let enough = fit (goal.at.clear-requires c).After-row_cells-cells _ (asked (goal.at.clear-requires c).Start) in
-    let same = lent_length h c.parse-found.new.rows (cells_of (goal.at.clear-requires c).After-row_cells-cells) c.parse-found.auto.1.1.0 enough in
+    let same = lent_length h c.parse-found.new.rows (c.row_cells-cells.result) c.parse-found.auto.1.1.0 enough in
     omega (arith, same, cells_all h (cells_are (goal.at.clear-requires c).After-row_cells-cells _ (asked (goal.at.clear-requires c).Start)), h.work_size)
 
 pub returns : goal.returns
 returns c =
-    let cells = cells_of (goal.at.returns c).After-row_cells-cells in
+    let cells = c.row_cells-cells.result in
     let rows = c.parse-found.new.rows in
     λ s h lengths.
     searched h _ rows _ cells (cells + 16 * c.args.playing.bars) _

@@ -27,13 +27,12 @@ loop-next-preserved-else-is_among c =
     )
 
 pub loop-next-preserved : goal.loop-next-preserved
-loop-next-preserved c =
-    (
-      search rules,
-      search rules,
-      c.loop-next.invariant.2,
-      none_unused _ _ _ _ c.loop-next.next c.loop-next.invariant.3 (omega arith) (omega arith) c.if-used.false,
-    )
+loop-next-preserved c = (
+  search rules,
+  search rules,
+  c.loop-next.invariant.2,
+  none_unused _ _ _ _ c.loop-next.next c.loop-next.invariant.3 (omega arith) (omega arith) c.if-used.false,
+)
 
 pub returns : goal.returns
 returns c =

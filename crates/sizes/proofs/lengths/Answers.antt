@@ -9,12 +9,11 @@ pub loop-j-init : goal.loop-j-init
 loop-j-init c = (search rules, search rules, collected_none _, λ i d h l e. cursors_first _ d)
 
 pub is_reached-requires : goal.is_reached-requires
-is_reached-requires c =
-    (
-      search rules,
-      omega (arith, divisor_most c.loop-j.j (omega arith), c.divisor-d.ensures),
-      c.loop-j.invariant.3 c.loop-j.j _ (omega arith) (omega arith) c.divisor-d.ensures,
-    )
+is_reached-requires c = (
+  search rules,
+  omega (arith, divisor_most c.loop-j.j (omega arith), c.divisor-d.ensures),
+  c.loop-j.invariant.3 c.loop-j.j _ (omega arith) (omega arith) c.divisor-d.ensures,
+)
 
 pub loop-j-preserved-then-is_reached : goal.loop-j-preserved-then-is_reached
 loop-j-preserved-then-is_reached c =

@@ -2,13 +2,14 @@ use borrow.Author.Rules.{rules}
 use native.Mathlib.Omega.{arith}
 use Prim.Native.Nat.{◌<◌}
 use Rattle.bar_lines.proofs.Cells.{line_in_lem, found_here, found_later}
+use Rattle.bar_lines.proofs.clock.bar_from.Goals.{At-loop-bar}
 use Rattle.bar_lines.proofs.clock.bar_from.Goals as goal
 
 -- the bar is one of 64 at most
-most : (c : tie.At-loop invariant-loop decreases-loop) → c.loop.bar < 64
+most : (c : At-loop-bar) → c.loop-bar.bar < 64
 most c =
-    let (bars, s) = c.before.requires in
-    let inside = (c.loop.invariant bars s).0 in
+    let (bars, s) = c.requires in
+    let inside = (c.loop-bar.invariant bars s).0 in
     let few = s.lines.sixty_four in
     omega (arith, inside, few)
 
@@ -26,13 +27,13 @@ pub offset_bounds-lines-bar : goal.offset_bounds-lines-bar
 offset_bounds-lines-bar c = let m = most (goal.at.offset_bounds-lines-bar c).At-loop-bar in search rules
 
 pub bounds-lines-bar : goal.bounds-lines-bar
-bounds-lines-bar c = let m = most (goal.at.bounds-lines-bar c).After-way_told-1 in search rules
+bounds-lines-bar c = let m = most (goal.at.bounds-lines-bar c).At-loop-bar in search rules
 
 pub overflow_add-bar-in-loop-bar : goal.overflow_add-bar-in-loop-bar
-overflow_add-bar-in-loop-bar c = let m = most (goal.at.overflow_add-bar-in-loop-bar c).After-way_told-1 in search rules
+overflow_add-bar-in-loop-bar c = let m = most (goal.at.overflow_add-bar-in-loop-bar c).At-loop-bar in search rules
 
 pub loop-bar-smaller : goal.loop-bar-smaller
-loop-bar-smaller c = let m = most (goal.at.loop-bar-smaller c).After-way_told-1 in omega (arith, m)
+loop-bar-smaller c = let m = most (goal.at.loop-bar-smaller c).At-loop-bar in omega (arith, m)
 
 pub loop-bar-preserved : goal.loop-bar-preserved
 loop-bar-preserved c bars s =

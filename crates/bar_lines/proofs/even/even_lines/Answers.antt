@@ -6,11 +6,12 @@ use lib.ListN.{length-replicate}
 use Rattle.slices.specs.Filled.{Filled, filled_none, filled_more}
 use Rattle.sheet.specs.Clock.{end_fits}
 use Rattle.bar_lines.proofs.Cells.{even_in}
+use Rattle.bar_lines.proofs.even.even_lines.Goals.{In-loop-i}
 use Rattle.bar_lines.proofs.even.even_lines.Goals as goal
 
 -- a line's number is at most that of the last bar
-few : (c : tie.In-loop invariant-loop decreases-loop) → c.before.loop.i ≤ 64
-few c = let most = c.before.before.requires.0 in omega (arith, c.loop-test.true, most)
+few : (c : In-loop-i) → c.loop-i.i ≤ 64
+few c = let most = c.requires.0 in omega (arith, c.loop-i-test.true, most)
 
 pub loop-i-init : goal.loop-i-init
 loop-i-init c = (filled_none _ _, omega arith, length-replicate {A = ℕ} 65 0)
@@ -43,5 +44,5 @@ pub returns : goal.returns
 returns c =
     let inv = c.loop-i.invariant in
     let all : c.loop-i.i ≡ c.args.bars + 1 = omega (arith, inv.1, c.loop-i-test.false) in
-    let few = c.requires.0 in
-    even_in _ _ _ _ (subst (Filled _ _ _) all inv.0) (let size = inv.2 in omega (arith, size, few))
+    let few (goal.at.returns c).In-loop-i c.requires.0 in
+    even_in _ _ _ _ (subst (Filled _ _ _) all inv.0) (let size = inv.2 in omega (arith, size, few (goal.at.returns c).In-loop-i)

@@ -8,11 +8,12 @@ use lib.Seq.{length-take-le, take-suc}
 use Rattle.slices.specs.Pad.{pad, pad_nil, length-pad, pad_map_more}
 use Rattle.sheet.specs.Held.{micros, timing_table}
 use Rattle.bar_lines.proofs.Cells.{cells_many}
+use Rattle.bar_lines.proofs.even.timing_table.Goals.{In-loop-i}
 use Rattle.bar_lines.proofs.even.timing_table.Goals as goal
 
 -- a line's number is at most that of the last bar
-few : (c : tie.In-loop invariant-loop decreases-loop) → c.before.loop.i ≤ 64
-few c = let most = c.before.before.requires.sixty_four in omega (arith, c.loop-test.true, most)
+few : (c : In-loop-i) → c.loop-i.i ≤ 64
+few c = let most = c.requires.sixty_four in omega (arith, c.loop-i-test.true, most)
 
 pub loop-i-init : goal.loop-i-init
 loop-i-init c = (pad_nil 65 (micros 0), omega arith)
@@ -21,19 +22,19 @@ pub offset_bounds-lines-i : goal.offset_bounds-lines-i
 offset_bounds-lines-i c = let n = few (goal.at.offset_bounds-lines-i c).In-loop-i in search rules
 
 pub bounds-lines-i : goal.bounds-lines-i
-bounds-lines-i c = let n = few (goal.at.bounds-lines-i c).After-way_told-1 in search rules
+bounds-lines-i c = let n = few (goal.at.bounds-lines-i c).In-loop-i in search rules
 
 pub offset_bounds-table-i : goal.offset_bounds-table-i
-offset_bounds-table-i c = let n = few (goal.at.offset_bounds-table-i c).After-way_told-1 in search rules
+offset_bounds-table-i c = let n = few (goal.at.offset_bounds-table-i c).In-loop-i in search rules
 
 pub bounds-table-i : goal.bounds-table-i
 bounds-table-i c =
-    let n = few (goal.at.bounds-table-i c).After-way_told-1 in
+    let n = few (goal.at.bounds-table-i c).In-loop-i in
     let size = ap length c.loop-i.invariant.0 ∙ length-pad 65 (micros 0) _ in
     omega (arith, n, size)
 
 pub overflow_add-i : goal.overflow_add-i
-overflow_add-i c = let n = few (goal.at.overflow_add-i c).After-way_told-1 in search rules
+overflow_add-i c = let n = few (goal.at.overflow_add-i c).In-loop-i in search rules
 
 pub loop-i-smaller : goal.loop-i-smaller
 loop-i-smaller c = omega (arith, c.loop-i-test.true)
@@ -41,7 +42,7 @@ loop-i-smaller c = omega (arith, c.loop-i-test.true)
 pub loop-i-preserved : goal.loop-i-preserved
 loop-i-preserved c =
     let inv = c.loop-i.invariant in
-    let n = few (goal.at.loop-i-preserved c).After-way_told-1 in
+    let n = few (goal.at.loop-i-preserved c).In-loop-i in
     let lines = c.args.lines.now in
     let next : suc c.loop-i.i ≡ c.loop-i.i + 1 = omega arith in
     let size = cells_many _ _ c.requires in

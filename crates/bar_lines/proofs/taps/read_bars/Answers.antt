@@ -1,6 +1,6 @@
 -- `read_bars` meets its contract: taps are read, or the onsets follow at once. Assumes nothing.
 use mathlib.Core.Path.{refl, sym, subst}
-use mathlib.Core.Bool.{Bool, false, cond}
+use mathlib.Core.Bool.{false, cond}
 use lib.ListN.{drop}
 use borrow.Author.Tests.{eq-eqb, ne_eqb}
 use Rattle.sheet.specs.Sheet.{no_playing, even_lines}
@@ -8,24 +8,18 @@ use Rattle.sheet.specs.Reading.{in_taps, in_onsets}
 use Rattle.sheet.specs.Rest.{read_rest}
 use Rattle.sheet.specs.Good.{GoodTiming}
 use Rattle.sheet.specs.GoodBars.{even_good}
-use Rattle.bar_lines.specs.declared.taps.Bars.{Bars}
 use Rattle.bar_lines.specs.Lines.{BarsRead}
 use Rattle.bar_lines.proofs.taps.read_bars.Goals as goal
-
--- reading bar lines where taps are next, or onsets
-abbrev Next : tie.Start → Bool → Bars → Type 0
-Next s tapped r =
-    BarsRead
-    (λ g. read_rest (cond tapped (in_taps g s.args.bars []) (in_onsets g false (even_lines s.args.bars s.args.duration.0)
-    (no_playing s.args.bars) 0)) s.args.line (drop s.args.at s.args.text.now))
-    s.args.text.now s.args.bars tapped r
 
 pub returns-then-duration-eq0 : goal.returns-then-duration-eq0
 returns-then-duration-eq0 c =
     let none = c.if-duration-eq0.true in
     let taps = c.read_taps.ensures in
     record {
-      read = subst (λ b. Next (goal.at.returns-then-duration-eq0 c).Start b c.read_taps.result) (sym (eq-eqb _ 0 none)) taps;
+      read = subst (λ b. (BarsRead
+          (λ g. read_rest (cond b (in_taps g c.args.bars []) (in_onsets g false (even_lines c.args.bars c.args.duration.0)
+          (no_playing c.args.bars) 0)) c.args.line (drop c.args.at c.args.text.now))
+          c.args.text.now c.args.bars b c.read_taps.result)) (sym (eq-eqb _ 0 none)) taps;
       lines = λ z.
           record {
             lines = record { one = c.requires.4; sixty_four = c.requires.5; time = taps.good z };
@@ -44,7 +38,10 @@ returns c =
     let good = subst (GoodTiming c.args.bars) (sym is)
     (even_good c.args.bars c.args.duration.0 pre.5 (pre.6 some).0 (pre.6 some).1) in
     record {
-      read = subst (λ b. Next (goal.at.returns c).Start b (record { number = 0; line = c.args.line; at = c.args.at; lines = c.even_lines-lines.result }))
+      read = subst (λ b. (BarsRead
+          (λ g. read_rest (cond b (in_taps g c.args.bars []) (in_onsets g false (even_lines c.args.bars c.args.duration.0)
+          (no_playing c.args.bars) 0)) c.args.line (drop c.args.at c.args.text.now))
+          c.args.text.now c.args.bars b (record { number = 0; line = c.args.line; at = c.args.at; lines = c.even_lines-lines.result })))
           (sym (ne_eqb c.args.duration.0 0 some))
           (record {
             stop = λ f. absurd (f refl);

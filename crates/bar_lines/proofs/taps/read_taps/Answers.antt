@@ -6,24 +6,28 @@ use lib.ListN.{length}
 use Rattle.slices.specs.Pad.{pad_nil, length-pad}
 use Rattle.bar_lines.proofs.TapLoop.{taps_none, taps_missing, taps_bad, taps_stop, taps_more, taps_onsets, taps_good}
 use Rattle.bar_lines.proofs.TapLoop.{bars_refused}
+use Rattle.bar_lines.proofs.taps.read_taps.Goals.{After-four_at-t, At-loop-n, Else-text-at}
 use Rattle.bar_lines.proofs.taps.read_taps.Goals as goal
 
-few : (c : tie.At-loop invariant-loop decreases-loop) → c.before.before.args.bars ≤ 64
-few c = c.before.before.requires.4
+few : (c : At-loop-n) → c.args.bars ≤ 64
+few c = c.requires.4
 
 -- where a line is read a tap is missing, and a line is left
-missing : (c : tie.Else1 invariant-loop decreases-loop) → c.before.before.loop.n ≤ c.before.before.before.before.args.bars
-missing c = omega (arith, c.before.loop-test.true)
+missing : (c : Else-text-at) → c.loop-n.n ≤ c.args.bars
+missing c = omega (arith, c.loop-n-test.true)
 
-inside : (c : tie.Else1 invariant-loop decreases-loop) → c.before.before.loop.at < length c.before.before.before.before.args.text.now
-inside c = omega (arith, c.if1.false)
+inside : (c : Else-text-at) → c.loop-n.at < length c.args.text.now
+inside c = omega (arith, c.if-text-at.false)
 
 -- there is room for a tap
-room : (c : tie.After-four-at invariant-loop decreases-loop) → c.before.before.before.before.before.before.before.before.loop.n < 65
+room : (c : After-four_at-t) → c.loop-n.n < 65
 room c =
-    let at-if1 = c.before.before.before.before.before.before in
-    let m = missing at-if1 in
-    let n = few at-if1.before.before in
+    let missing-here : c.loop-n.n ≤ c.args.bars =
+    omega (arith, c.loop-n-test.true) in
+    let few-here : c.args.bars ≤ 64 =
+    c.requires.4 in
+    let m = missing-here in
+    let n = few-here in
     omega (arith, m, n)
 
 pub loop-n-init : goal.loop-n-init

@@ -4,6 +4,7 @@ use Prim.Native.Nat.{ℕ, ◌+◌, ◌≤◌, ◌<◌}
 use mathlib.Core.Path.{◌≡◌}
 use borrow.Author.Tests.{le-leb, lt-leb}
 use Rattle.sheet.specs.Reading.{step_refusal}
+use Rattle.bar_lines.proofs.taps.step_refusal.Goals.{Else-step-lt-BAR_SHORTEST}
 use Rattle.bar_lines.proofs.taps.step_refusal.Goals as goal
 
 module _ (before t : ℕ) where
@@ -20,8 +21,8 @@ module _ (before t : ℕ) where
     unfolding step_refusal
     within h = simp (le-leb (before + 1000) t far-enough, le-leb t (before + 60_000_000) h)
 
-long-enough : (c : tie.Else2) → (start_of c).args.before.0 + 1000 ≤ (start_of c).args.moment.0
-long-enough c = omega (arith, c.if2.false, c.before.before.before.if1.false)
+long-enough : (c : Else-step-lt-BAR_SHORTEST) → c.args.before.0 + 1000 ≤ c.args.moment.0
+long-enough c = omega (arith, c.if-step-lt-BAR_SHORTEST.false, c.if-moment-before.false)
 
 pub returns-then-moment-before : goal.returns-then-moment-before
 returns-then-moment-before c = near _ _ (omega (arith, c.if-moment-before.true))

@@ -40,10 +40,8 @@ leaf-back h w n p q r =
 
 pub returns-in-Division : goal.returns-in-Division
 returns-in-Division c =
-    let r = c.rule-1.given in
-    division-back r.0.0 r.0.1.0 r.0.1.1.0 (search rules) (search rules) (search rules) ∙ sym r.1
+    division-back c.in-Division.head c.in-Division.weight c.in-Division.arity (search rules) (search rules) (search rules) ∙ sym c.in-Division.is
 
 pub returns-in-Leaf : goal.returns-in-Leaf
 returns-in-Leaf c =
-    let r = c.rule-in-Leaf-1.given in
-    leaf-back r.0.0 r.0.1.0 r.0.1.1.0 (search rules) (search rules) (search rules) ∙ sym r.1
+    leaf-back c.in-Leaf.head c.in-Leaf.weight c.in-Leaf.n (search rules) (search rules) (search rules) ∙ sym c.in-Leaf.is

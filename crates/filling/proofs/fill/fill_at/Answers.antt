@@ -6,12 +6,6 @@ use Rattle.filling.specs.AtLaws.{at-length, at_unit, at_positive, at_along, at_n
 use Rattle.filling.specs.AtLaws.{length_told, keep_asked, at_told}
 use Rattle.filling.proofs.fill.fill_at.Goals as goal
 
-rem-d : tie.Need-nonzero-rem-d
-rem-d c =
-    let start = c.before.before.before.before.before.before.before in
-    let length = c.before.before.before.length in
-    omega (arith, at_positive start.requires.1 length.ensures refl refl)
-
 pub length-len-requires : goal.length-len-requires
 length-len-requires c =
     let e = c.requires.1 in
@@ -28,6 +22,11 @@ bounds-units-from c =
 pub overflow_sub-d : goal.overflow_sub-d
 overflow_sub-d c =
     omega (arith, at_unit c.requires.1)
+
+pub nonzero_rem-d : goal.nonzero_rem-d
+nonzero_rem-d c =
+    let length = c.length-len in
+    omega (arith, at_positive c.requires.1 length.ensures refl refl)
 
 pub overflow_sub-left : goal.overflow_sub-left
 overflow_sub-left c =

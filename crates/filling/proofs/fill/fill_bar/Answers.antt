@@ -2,10 +2,11 @@ use Rattle.std.proofs.Common.{◌≡◌, sym, refl, ◌∙◌, arith}
 use borrow.Author.Tests.{not-false}
 use Rattle.filling.specs.Order.{worth_in}
 use Rattle.filling.specs.OnsetLaws.{bar_number, bar_begin, bar_place, bar_next, bar_asked, bar_more}
+use Rattle.filling.proofs.fill.fill_bar.Goals.{Else-not-is_worth}
 use Rattle.filling.proofs.fill.fill_bar.Goals as goal
 
-worth : (c : tie.Else1 invariant-loop decreases-loop) → worth_in c.before.before.before.args.order.now ≡ 1
-worth c = c.before.is-worth.ensures (not-false _ c.if1.false)
+worth : (c : Else-not-is_worth) → worth_in c.args.order.now ≡ 1
+worth c = c.is_worth.ensures (not-false _ c.if-not-is_worth.false)
 
 pub returns-then-not-is_worth : goal.returns-then-not-is_worth
 returns-then-not-is_worth c = λ s e. e.sound
@@ -42,7 +43,7 @@ slice_bounds-fill_onset-end c =
 pub fill_onset-requires : goal.fill_onset-requires
 fill_onset-requires c =
     let if2 = c.loop-i-test in
-    (c.requires.0, bar_asked c.requires.1 (c.loop-i.invariant _ c.requires.1) if2.true (worth (goal.at.fill_onset-requires c).After-struct_known-1))
+    (c.requires.0, bar_asked c.requires.1 (c.loop-i.invariant _ c.requires.1) if2.true (worth (goal.at.fill_onset-requires c).Else-not-is_worth))
 
 pub overflow_add-i : goal.overflow_add-i
 overflow_add-i c =
@@ -61,7 +62,7 @@ loop-i-preserved c =
     let if2 = c.loop-i-test in
     let fill-onset = c.fill_onset in
     λ s e.
-    let asked = bar_asked e (c.loop-i.invariant s e) if2.true (worth (goal.at.loop-i-preserved c).After-struct_known-1) in
+    let asked = bar_asked e (c.loop-i.invariant s e) if2.true (worth (goal.at.loop-i-preserved c).Else-not-is_worth) in
     bar_more e (c.loop-i.invariant s e) if2.true (fill-onset.ensures s asked)
 
 pub shape_of-rows : goal.shape_of-rows

@@ -3,19 +3,6 @@ use Rattle.filling.specs.LengthLaws.{length_asked, length_end, length_idle, part
 use Rattle.filling.specs.LengthLaws.{arity_asked, arity_told}
 use Rattle.filling.proofs.fill.fill_length.Goals as goal
 
-div-j : tie.Need-nonzero-div-j invariant-loop decreases-loop
-div-j c =
-    let at-if1 = c.before.before.before in
-    let at-split-by = at-if1.before.before in
-    let at-loop = at-split-by.before.before in
-    let start = at-loop.before.before.before in
-    let loop = at-loop.loop in
-    let less = at-split-by.before.loop-test in
-    let length = c.before.before.length in
-    let e = start.requires.1 in
-    let told = at-split-by.split_by.ensures.1 _ e.in_bar_lem.prepared e.lone.length_in in
-    omega (arith, part_positive e loop.invariant.0 (omega (arith, less.true)) told at-if1.if1.true length.ensures refl)
-
 pub loop-k-init : goal.loop-k-init
 loop-k-init c = (omega arith, omega arith, λ s e. e.done)
 
@@ -35,6 +22,15 @@ length-len-requires c =
     let e = c.requires.1 in
     let told = c.split_by-split.ensures.1 _ e.in_bar_lem.prepared e.lone.length_in in
     (part-length e loop.invariant.0 (omega (arith, less.true)) told c.if-split-ne0.true, (c.requires.0, e.in_bar_lem.prepared))
+
+pub nonzero_div-j : goal.nonzero_div-j
+nonzero_div-j c =
+    let loop = c.loop-k in
+    let less = c.loop-k-test in
+    let length = c.length-len in
+    let e = c.requires.1 in
+    let told = c.split_by-split.ensures.1 _ e.in_bar_lem.prepared e.lone.length_in in
+    omega (arith, part_positive e loop.invariant.0 (omega (arith, less.true)) told c.if-split-ne0.true length.ensures refl)
 
 pub overflow_cast-j : goal.overflow_cast-j
 overflow_cast-j c =

@@ -7,16 +7,17 @@ use Rattle.expansions.specs.Tables.{RulesHeld}
 use Rattle.plan.specs.Sections.{Small}
 use Rattle.plan.proofs.PlanSteps.{few_rules, few_heads, few_lengths, falling, tables_of, prepared}
 use borrow.Author.Rules.{rules}
+use Rattle.plan.proofs.fill.prepare.Goals.{Start}
 use Rattle.plan.proofs.fill.prepare.Goals as goal
 
-rules-few : (c : tie.Start) → c.args.grammar.count ≤ 64
+rules-few : (c : Start) → c.args.grammar.count ≤ 64
 rules-few c = few_rules c.args.grammar c.requires.0 c.requires.1 c.requires.2
 
 -- a child is a byte, and a length fits 32 bits
-children-small : (c : tie.Start) → Small c.args.grammar.children
+children-small : (c : Start) → Small c.args.grammar.children
 children-small c i = let f : Fits w32 (get_or c.args.grammar.children i 0) = search rules in f.fits
 
-lengths-small : (c : tie.Start) → Small c.args.reached.cells
+lengths-small : (c : Start) → Small c.args.reached.cells
 lengths-small c i = let f : Fits w32 (get_or c.args.reached.cells i 0) = search rules in f.fits
 
 pub least_leaves-leaves-requires : goal.least_leaves-leaves-requires

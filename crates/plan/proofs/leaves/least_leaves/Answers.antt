@@ -12,7 +12,7 @@ loop-r-init c = (search rules, refl, λ s t m. packed_none s)
 pub loop-r-preserved-in-Division : goal.loop-r-preserved-in-Division
 loop-r-preserved-in-Division c =
     let call = c.rule_at-rule in
-    let told = c.enum_told-1.given.1 in (
+    let told = c.in-Division.is in (
       search rules,
       search rules,
       lowered_division _ _ c.loop-r.leaves _ c.loop-r.invariant.2 (omega arith) _ call.ensures _ _ _ told,
@@ -20,23 +20,23 @@ loop-r-preserved-in-Division c =
 
 pub overflow_mul-cell : goal.overflow_mul-cell
 overflow_mul-cell c =
-    let weight = c.rule-1.given.0.1.0 in
+    let weight = c.in-Leaf.weight in
     omega (arith, weighted_most c.args.a weight (search rules) (search rules))
 
 pub overflow_mul-cell-in-Leaf : goal.overflow_mul-cell-in-Leaf
 overflow_mul-cell-in-Leaf c =
-    let weight = c.rule-1.given.0.1.0 in
+    let weight = c.in-Leaf.weight in
     omega (arith, weighted_most c.args.a weight (search rules) (search rules))
 
 pub overflow_add-cell : goal.overflow_add-cell
 overflow_add-cell c =
-    let weight = c.rule-1.given.0.1.0 in
+    let weight = c.in-Leaf.weight in
     omega (arith, weighted_most c.args.a weight (search rules) (search rules))
 
 pub loop-r-preserved-then-cell-leaves : goal.loop-r-preserved-then-cell-leaves
 loop-r-preserved-then-cell-leaves c =
     let call = c.rule_at-rule in
-    let told = c.rule-1.given.1 in
+    let told = c.in-Leaf.is in
     let size = c.loop-r.invariant.1 in (
       search rules,
       search rules,
@@ -47,7 +47,7 @@ loop-r-preserved-then-cell-leaves c =
 pub loop-r-preserved-else-cell-leaves : goal.loop-r-preserved-else-cell-leaves
 loop-r-preserved-else-cell-leaves c =
     let call = c.rule_at-rule in
-    let told = c.rule-1.given.1 in (
+    let told = c.in-Leaf.is in (
       search rules,
       search rules,
       lowered_kept _ _ c.loop-r.leaves _ c.loop-r.invariant.2 (omega arith) _ call.ensures _ _ _ told c.if-cell-leaves.false,
@@ -56,7 +56,7 @@ loop-r-preserved-else-cell-leaves c =
 pub loop-r-preserved : goal.loop-r-preserved
 loop-r-preserved c =
     let call = c.rule_at-rule in
-    let told = c.rule-1.given.1 in (
+    let told = c.in-Leaf.is in (
       search rules,
       search rules,
       lowered_past _ _ c.loop-r.leaves _ c.loop-r.invariant.2 (omega arith) _ call.ensures _ _ _ told c.if-at-lt-LEAF_CELLS.false,

@@ -1,33 +1,32 @@
-use Prim.Native.Nat.{ℕ, ◌+◌, ◌-◌, ◌*◌, ◌≤◌}
+use Prim.Native.Nat.{◌+◌, ◌-◌, ◌*◌, ◌≤◌}
 use mathlib.Core.Path.{◌≡◌, ap, subst, ◌∙◌}
 use native.Mathlib.Omega.{arith}
 use borrow.Author.Rules.{rules}
 use Rattle.groups.specs.Sums.{sum_to}
 use Rattle.plan.specs.Sections.{rest_in, DivisionWays}
 use Rattle.plan.proofs.WaySteps.{rest_least, rest_behind, division_none, division_more}
+use Rattle.plan.proofs.ways.lay_division.Goals.{After-placed_cost-own}
 use Rattle.plan.proofs.ways.lay_division.Goals as goal
 
-abbrev all_of : tie.After-lay-part-arg invariant-loop decreases-loop → ℕ
-all_of c = (start_of c).args.cost + c.before.before.before.before.before.rest_sum.result
-
-abbrev own_of : tie.After-lay-part-arg invariant-loop decreases-loop → ℕ
-own_of c = c.before.placed-cost.result
-
 -- a part is one of all
-least : (c : tie.After-lay-part-arg invariant-loop decreases-loop) → own_of c ≤ all_of c
+least : (c : After-placed_cost-own) → c.placed_cost-own.result ≤ (c.args.cost + c.rest_sum.result)
 least c =
-    let at-loop = c.before.before.before.before in
-    let told = (start_of c).args in
-    rest_least told.children.now told.leaves.now told.cost told.r told.k at-loop.loop.j (own_of c) (all_of c)
-    c.before.before.before.loop-test.true c.before.placed-cost.ensures.1
-    (ap (told.cost +◌) at-loop.before.rest_sum.ensures.1)
+    let told = c.args in
+    rest_least told.children.now told.leaves.now told.cost told.r told.k c.loop-j.j (c.placed_cost-own.result) ((c.args.cost + c.rest_sum.result))
+    c.loop-j-test.true c.placed_cost-own.ensures.1
+    (ap (told.cost +◌) c.rest_sum.ensures.1)
 
 -- what the rule and the other parts cost, with the part, is what all cost
-whole : (c : tie.After-lay-part-arg invariant-loop decreases-loop)
-    → all_of c - own_of c + own_of c
-    ≡ (start_of c).args.cost + sum_to (rest_in (start_of c).args.children.now (start_of c).args.leaves.now (start_of c).args.r)
-    (start_of c).args.k
-whole c = omega (arith, least c, c.before.before.before.before.before.rest_sum.ensures.1)
+whole : (c : After-placed_cost-own) → (c.args.cost + c.rest_sum.result) - c.placed_cost-own.result + c.placed_cost-own.result
+    ≡ c.args.cost + sum_to (rest_in c.args.children.now c.args.leaves.now c.args.r)
+    c.args.k
+whole c =
+    let least-here : c.placed_cost-own.result ≤ (c.args.cost + c.rest_sum.result) =
+    let told = c.args in
+    rest_least told.children.now told.leaves.now told.cost told.r told.k c.loop-j.j (c.placed_cost-own.result) ((c.args.cost + c.rest_sum.result))
+    c.loop-j-test.true c.placed_cost-own.ensures.1
+    (ap (told.cost +◌) c.rest_sum.ensures.1) in
+    omega (arith, least-here c.rest_sum.ensures.1)
 
 pub rest_sum-requires : goal.rest_sum-requires
 rest_sum-requires c = let pre = c.requires in (pre.2, pre.3, pre.4, pre.5)
@@ -46,7 +45,7 @@ pub placed_cost-own-requires : goal.placed_cost-own-requires
 placed_cost-own-requires c = (omega arith, c.requires.5)
 
 pub overflow_sub-all : goal.overflow_sub-all
-overflow_sub-all c = least (goal.at.overflow_sub-all c).After-lay_part-arg-1
+overflow_sub-all c = least (goal.at.overflow_sub-all c).After-placed_cost-own
 
 pub lay_part-requires : goal.lay_part-requires
 lay_part-requires c =
@@ -60,17 +59,16 @@ lay_part-requires c =
       omega (arith, pre.1, sum.0),
       pre.4,
       pre.5,
-      rest_behind told.children.now told.leaves.now told.cost told.r told.k c.loop-j.j _ _ (whole (goal.at.lay_part-requires c).After-lay_part-arg-1)
+      rest_behind told.children.now told.leaves.now told.cost told.r told.k c.loop-j.j _ _ (whole (goal.at.lay_part-requires c).After-placed_cost-own)
           c.placed_cost-own.ensures.1,
     )
 
 pub loop-j-preserved : goal.loop-j-preserved
-loop-j-preserved c =
-    (
-      search rules,
-      division_more c.loop-j.invariant.1 c.loop-j-test.true (whole (goal.at.loop-j-preserved c).After-lay_part-arg-1)
-          c.placed_cost-own.ensures.1 c.lay_part.ensures,
-    )
+loop-j-preserved c = (
+  search rules,
+  division_more c.loop-j.invariant.1 c.loop-j-test.true (whole (goal.at.loop-j-preserved c).After-placed_cost-own)
+      c.placed_cost-own.ensures.1 c.lay_part.ensures,
+)
 
 pub shape_of-plan : goal.shape_of-plan
 shape_of-plan c = c.loop-j.invariant.1.size

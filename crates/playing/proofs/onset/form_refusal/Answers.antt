@@ -16,32 +16,28 @@ returns-then-l-ne7 c = (λ b h. rw (← h.count) (search demands depth 10), λ z
 
 pub returns-then-pitch-gt127 : goal.returns-then-pitch-gt127
 unfolding onset_form
-returns-then-pitch-gt127 c =
-    (
-      λ b h. rw (← h.count, ← c.byte_at-pitch.ensures b h, ← c.byte_at-velocity.ensures b h) (search demands depth 10),
-      λ z. refused z,
-    )
+returns-then-pitch-gt127 c = (
+  λ b h. rw (← h.count, ← c.byte_at-pitch.ensures b h, ← c.byte_at-velocity.ensures b h) (search demands depth 10),
+  λ z. refused z,
+)
 
 pub returns-then-velocity-lt1 : goal.returns-then-velocity-lt1
 unfolding onset_form
-returns-then-velocity-lt1 c =
-    (
-      λ b h. rw (← h.count, ← c.byte_at-pitch.ensures b h, ← c.byte_at-velocity.ensures b h) (search demands depth 10),
-      λ z. refused z,
-    )
+returns-then-velocity-lt1 c = (
+  λ b h. rw (← h.count, ← c.byte_at-pitch.ensures b h, ← c.byte_at-velocity.ensures b h) (search demands depth 10),
+  λ z. refused z,
+)
 
 pub returns-then-velocity-gt127 : goal.returns-then-velocity-gt127
 unfolding onset_form
-returns-then-velocity-gt127 c =
-    (
-      λ b h. rw (← h.count, ← c.byte_at-pitch.ensures b h, ← c.byte_at-velocity.ensures b h) (search demands depth 10),
-      λ z. refused z,
-    )
+returns-then-velocity-gt127 c = (
+  λ b h. rw (← h.count, ← c.byte_at-pitch.ensures b h, ← c.byte_at-velocity.ensures b h) (search demands depth 10),
+  λ z. refused z,
+)
 
 pub returns : goal.returns
 unfolding onset_form
-returns c =
-    (
-      λ b h. rw (← h.count, ← c.byte_at-pitch.ensures b h, ← c.byte_at-velocity.ensures b h) (search demands depth 10),
-      λ z. c.if-l-ne7.false,
-    )
+returns c = (
+  λ b h. rw (← h.count, ← c.byte_at-pitch.ensures b h, ← c.byte_at-velocity.ensures b h) (search demands depth 10),
+  λ z. c.if-l-ne7.false,
+)

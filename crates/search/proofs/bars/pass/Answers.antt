@@ -5,20 +5,13 @@ use Rattle.search.specs.Clauses.{PassPre, RootsTo, Rooted}
 use Rattle.search.proofs.EnterSteps.{pass_few, pass_low, pass_again}
 use Rattle.search.proofs.PassSteps.{totals_low, passing_none, passing_all, passing_room, passing_stored, passing_row}
 use Rattle.search.proofs.PassSteps.{passing_more}
+use Rattle.search.proofs.bars.pass.Goals.{After-root_row-y}
 use Rattle.search.proofs.bars.pass.Goals as goal
 
--- what is asked for, of a sheet s; `t7` is the argument v
-abbrev Asked : At-loop → Sheet → Type 0
-Asked c s =
-    let a = (start_of c).args in
-    PassPre s a.plan.now a.units.now a.rows.now a.bar a.start a.t7
-
-abbrev Stored : At-loop → Sheet → Type 0
-Stored c s = RootsTo s (start_of c).args.roots.now (start_of c).args.bar.number 0
-
-rooted : (c : At-row) (s : Sheet) → Asked (row-loop c) s → Stored (row-loop c) s
-    → Rooted s c.root-row.new.1.1.0 (start_of (row-loop c)).args.bar.number (row-loop c).loop.c c.root-row.result
-rooted c s h are = c.root-row.ensures s (pass_again h ((row-loop c).loop.invariant.2 s h are).taken.sound)
+rooted : (c : After-root_row-y) (s : Sheet) → (let a = c.args in
+    PassPre s a.plan.now a.units.now a.rows.now a.bar a.start a.t7) → (RootsTo s c.args.roots.now c.args.bar.number 0)
+    → Rooted s c.root_row-y.new.rows c.args.bar.number c.loop-c.c c.root_row-y.result
+rooted c s h are = c.root_row-y.ensures s (pass_again h (c.loop-c.invariant.2 s h are).taken.sound)
 
 pub overflow_mul-at : goal.overflow_mul-at
 overflow_mul-at c =

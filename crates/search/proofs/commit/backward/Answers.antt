@@ -7,29 +7,29 @@ use Rattle.rows.specs.VectorLaws.{only_low}
 use Rattle.search.specs.Clauses.{BackwardPre, SuffixStep}
 use Rattle.search.proofs.PassSteps.{length-stored}
 use Rattle.search.proofs.BackSteps.{back_again, back_stored, backward_none, backward_entry, backward_room, backward_more}
+use Rattle.search.proofs.commit.backward.Goals.{After-store, After-suffix_step-w, At-loop-b}
 use Rattle.search.proofs.commit.backward.Goals as goal
 
 -- the table is as long as it was
-same : (c : At-store) → length c.store.new.0 ≡ length (start_of c).args.vectors.now
-same c = back_stored (start_of c).requires.1 c.before.before.only_at.result c.store.ensures
-
--- what is asked for, of a sheet s, with the table as it is where the loop begins
-abbrev Asked : At-loop → Sheet → Type 0
-Asked c s =
-    let a = (start_of (loop-store c)).args in
-    BackwardPre s a.roots.now (loop-store c).store.new.0 a.from a.end
+same : (c : After-store) → length c.store.new.rows ≡ length c.args.vectors.now
+same c = back_stored c.requires.1 c.only_at-v.result c.store.ensures
 
 -- the sheet that the function is given
-given : (c : At-loop) → Asked c (start_of (loop-store c)).pre.0
-given c = back_again (start_of (loop-store c)).pre.1 _ (same (loop-store c))
+given : (c : At-loop-b) → (let a = c.args in
+    BackwardPre c.requires.0 a.roots.now c.store.new.rows a.from a.end)
+given c =
+    let same-here : length c.store.new.rows ≡ length c.args.vectors.now =
+    back_stored c.requires.1 c.only_at-v.result c.store.ensures in
+    back_again c.requires.1 _ (same-here)
 
 -- the vector before bar b - 1
-told : (c : At-step) (s : Sheet) → Asked (step_loop c) s → let loop = (step_loop c).loop in
-    SuffixStep (start_of (loop-store (step_loop c))).args.roots.now (loop.b - 1) loop.v c.suffix-step.result
+told : (c : After-suffix_step-w) (s : Sheet) → (let a = c.args in
+    BackwardPre s a.roots.now c.store.new.rows a.from a.end) → let loop = c.loop-b in
+    SuffixStep c.args.roots.now (loop.b - 1) loop.v c.suffix_step-w.result
 told c s h =
-    let loop = (step_loop c).loop in
-    c.suffix-step.ensures s (start_of (loop-store (step_loop c))).args.end
-    (backward_entry h c.before.loop-test.true loop.inv.0 (loop.inv.3 s h))
+    let loop = c.loop-b in
+    c.suffix_step-w.ensures s c.args.end
+    (backward_entry h c.loop-b-test.true loop.inv.0 (loop.inv.3 s h))
 
 pub overflow_mul-end : goal.overflow_mul-end
 overflow_mul-end c =

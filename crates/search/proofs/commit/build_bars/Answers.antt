@@ -9,39 +9,34 @@ use Rattle.building.specs.Clauses.{BuildPre}
 use Rattle.search.specs.Clauses.{BarsBuildPre}
 use Rattle.search.proofs.EnterSteps.{few_bars, bar_enter}
 use Rattle.search.proofs.BarSteps.{in_bars_none, bar_carry, root_room, vector_room, bar_build, in_bars_more, in_bars_all}
+use Rattle.search.proofs.commit.build_bars.Goals.{After-enter-bar, After-load-v}
 use Rattle.search.proofs.commit.build_bars.Goals as goal
 
--- what is asked for, of a sheet s
-abbrev Asked : At-loop → Sheet → Type 0
-Asked c s =
-    let a = (start_of c).args in
-    BarsBuildPre s a.plan.now a.units.now a.rows.now a.tree.now a.vectors.now a.roots.now a.start a.from
-    a.end a.n
-
 -- it is one of at most 64
-bar-few : (c : At-enter) → (enter-loop c).loop.b < 64
+bar-few : (c : After-enter-bar) → c.loop-b.b < 64
 bar-few c =
-    let h = (start_of (enter-loop c)).pre.1 in
-    omega (arith, few_bars h.committable.entry, h.committable.end_in, c.before.loop-test.true)
+    let h = c.requires.1 in
+    omega (arith, few_bars h.committable.entry, h.committable.end_in, c.loop-b-test.true)
 
 -- one of four carry states is carried into it
-carry-few : (c : At-enter) → (enter-loop c).loop.carry < 4
+carry-few : (c : After-enter-bar) → c.loop-b.carry < 4
 carry-few c =
-    let loop = (enter-loop c).loop in
-    let h = (start_of (enter-loop c)).pre.1 in
-    bar_carry h (loop.inv.2 _ h) loop.inv.1 c.before.loop-test.true
+    let loop = c.loop-b in
+    let h = c.requires.1 in
+    bar_carry h (loop.inv.2 _ h) loop.inv.1 c.loop-b-test.true
 
-entry : (c : At-vector) (s : Sheet) → Asked (vector-loop c) s → let a = (start_of (vector-loop c)).args in
-    let loop = (vector-loop c).loop in
-    let bar = (vector-enter c).enter.result in
+entry : (c : After-load-v) (s : Sheet) → (let a = c.args in
+    BarsBuildPre s a.plan.now a.units.now a.rows.now a.tree.now a.vectors.now a.roots.now a.start a.from
+    a.end a.n) → let a = c.args in
+    let loop = c.loop-b in
+    let bar = c.enter-bar.result in
     BuildPre s a.plan.now a.units.now loop.rows loop.tree bar a.start 0 (units_of (20160 * loop.b)) bar.first
-    loop.carry c.before.load.result c.load2.result loop.next
+    loop.carry c.load-y.result c.load-v.result loop.next
 entry c s h =
-    let loop = (vector-loop c).loop in
-    let at-enter = vector-enter c in
-    let below = at-enter.before.loop-test.taken in
-    let is-bar = at-enter.enter.ensures s (bar_enter h.committable.entry loop.b (omega (arith, below, h.committable.end_in))) in
-    bar_build h (loop.inv.2 s h) loop.inv.1 below c.before.load.ensures c.load2.ensures is-bar
+    let loop = c.loop-b in
+    let below = c.loop-b-test.true in
+    let is-bar = c.enter-bar.ensures s (bar_enter h.committable.entry loop.b (omega (arith, below, h.committable.end_in))) in
+    bar_build h (loop.inv.2 s h) loop.inv.1 below c.load-y.ensures c.load-v.ensures is-bar
 
 pub loop-b-init : goal.loop-b-init
 loop-b-init c =

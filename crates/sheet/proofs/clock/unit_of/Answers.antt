@@ -6,6 +6,7 @@ use Prim.Native.Nat.{ℕ, ◌+◌, ◌*◌, ◌/◌, ◌%◌, ◌≤◌, ◌<◌
 use mathlib.Core.Path.{◌≡◌, sym}
 use Rattle.sheet.specs.Sheet.{bar_units, unit_of}
 use Rattle.sheet.specs.Nearest.{rounded_unit}
+use Rattle.sheet.proofs.clock.unit_of.Goals.{Else-d-eq0}
 use Rattle.sheet.proofs.clock.unit_of.Goals as goal
 
 -- of a moment t of bars that last d: the units that it has passed, and what is left, as the code has them
@@ -31,17 +32,14 @@ module _ (t d : ℕ) (lasts : 0 < d) where
   up : d ≤ 2 * left → passed + 1 ≡ unit_of d t
   up h = rounded_unit d t (passed + 1) lasts (record { least = omega (arith, whole, h); below = omega (arith, whole, short) })
 
-abbrev moment : tie.After-struct-known2 → ℕ
-moment c = (start_of c).args.t.0
+lasts-at : (c : Else-d-eq0) → 0 < c.args.duration.0
+lasts-at c = let some = c.if-d-eq0.false in omega (arith, some)
 
-abbrev lasting : tie.After-struct-known2 → ℕ
-lasting c = (start_of c).args.duration.0
-
-lasts-at : (c : tie.After-struct-known2) → 0 < lasting c
-lasts-at c = let some = c.before.if1.false in omega (arith, some)
-
-few-at : (c : tie.After-struct-known2) → moment c * bar_units / lasting c < 1290241
-few-at c = few (moment c) (lasting c) (lasts-at c) (start_of c).requires
+few-at : (c : Else-d-eq0) → c.args.t.0 * bar_units / c.args.duration.0 < 1290241
+few-at c =
+    let lasts-at-here : 0 < c.args.duration.0 =
+    let some = c.if-d-eq0.false in omega (arith, some) in
+    few (c.args.t.0) (c.args.duration.0) (lasts-at-here) c.requires
 
 -- the unit of bars that do not last
 none : (t d : ℕ) → d ≡ 0 → t ≤ 64 * d → 0 ≡ unit_of d t
@@ -54,19 +52,19 @@ pub returns-then-d-eq0 : goal.returns-then-d-eq0
 returns-then-d-eq0 c = none c.args.t.0 c.args.duration.0 c.if-d-eq0.true c.requires
 
 pub overflow_mul-over : goal.overflow_mul-over
-overflow_mul-over c = let h = short (moment (goal.at.overflow_mul-over c).After-struct_known-2-1) (lasting (goal.at.overflow_mul-over c).After-struct_known-2-1) (lasts-at (goal.at.overflow_mul-over c).After-struct_known-2-1) in record { fits = omega (arith, h) }
+overflow_mul-over c = let h = short (c.args.t.0) (c.args.duration.0) (lasts-at (goal.at.overflow_mul-over c).Else-d-eq0) in record { fits = omega (arith, h) }
 
 pub overflow_cast-result : goal.overflow_cast-result
-overflow_cast-result c = let h = few-at (goal.at.overflow_cast-result c).After-struct_known-2-1 in record { fits = omega (arith, h) }
+overflow_cast-result c = let h = few-at (goal.at.overflow_cast-result c).Else-d-eq0 in record { fits = omega (arith, h) }
 
 pub returns-then-over-d : goal.returns-then-over-d
-returns-then-over-d c = down (moment (goal.at.returns-then-over-d c).After-struct_known-2-1) (lasting (goal.at.returns-then-over-d c).After-struct_known-2-1) (lasts-at (goal.at.returns-then-over-d c).After-struct_known-2-1) c.if-over-d.true
+returns-then-over-d c = down (c.args.t.0) (c.args.duration.0) (lasts-at (goal.at.returns-then-over-d c).Else-d-eq0) c.if-over-d.true
 
 pub overflow_add-result : goal.overflow_add-result
-overflow_add-result c = let h = few-at (goal.at.overflow_add-result c).After-struct_known-2-1 in record { fits = omega (arith, h) }
+overflow_add-result c = let h = few-at (goal.at.overflow_add-result c).Else-d-eq0 in record { fits = omega (arith, h) }
 
 pub overflow_cast-result-2 : goal.overflow_cast-result-2
-overflow_cast-result-2 c = let h = few-at (goal.at.overflow_cast-result-2 c).After-struct_known-2-1 in record { fits = omega (arith, h) }
+overflow_cast-result-2 c = let h = few-at (goal.at.overflow_cast-result-2 c).Else-d-eq0 in record { fits = omega (arith, h) }
 
 pub returns : goal.returns
-returns c = up (moment (goal.at.returns c).After-struct_known-2-1) (lasting (goal.at.returns c).After-struct_known-2-1) (lasts-at (goal.at.returns c).After-struct_known-2-1) c.if-over-d.false
+returns c = up (c.args.t.0) (c.args.duration.0) (lasts-at (goal.at.returns c).Else-d-eq0) c.if-over-d.false

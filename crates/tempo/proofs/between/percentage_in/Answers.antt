@@ -7,4 +7,4 @@ use Rattle.tempo.proofs.between.percentage_in.Goals as goal
 
 pub returns-in-Steady : goal.returns-in-Steady
 unfolding Ieee.of_bits
-returns-in-Steady c = sym (ap percent_in c.enum_told-1.given.1)
+returns-in-Steady c = sym (ap percent_in c.in-Steady.is)

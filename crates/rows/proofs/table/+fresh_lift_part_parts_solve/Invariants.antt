@@ -1,0 +1,50 @@
+use Prim.Native.Nat.{ℕ, ◌-◌, ◌≤◌, ◌+◌, ◌*◌}
+use mathlib.Core.Path.{◌≡◌}
+use lib.ListN.{get_or}
+use mathlib.Core.List.{List}
+use Rattle.sheet.specs.Sheet.{Sheet}
+use Rattle.rows.specs.Slots.{item_at}
+use Rattle.rows.specs.Rows.{Taken, PartEntry, MovedTo, PartsEntry, SolveEntry}
+use Rattle.sheet.specs.Held.{units}
+use Rattle.rows.specs.PartLaws.{PartsDone, kids_of}
+use Rattle.rows.specs.SolveLaws.{Done}
+use Rattle.rows.proofs.table.+fresh_lift_part_parts_solve.Given as goal
+
+-- abbrev pub μ-fresh : Measures 2 fresh-kinds.ps ℕ
+-- μ-fresh κs a = 5 * length_cell a.0.now a.1.1.1.1.1.0 + 1
+
+-- abbrev pub μ-lift : Measures 2 lift-kinds.ps ℕ
+-- μ-lift κs a = 5 * length_cell a.0.now a.1.1.1.1.1.0 + 2
+
+-- abbrev pub μ-part : Measures 2 part-kinds.ps ℕ
+-- μ-part κs a = 5 * length_cell a.0.now a.1.1.1.1.1.0 + 3
+
+-- abbrev pub μ-parts : Measures 2 parts-kinds.ps ℕ
+-- μ-parts κs a = 5 * length_cell a.0.now a.1.1.1.1.1.1.1.0 + 4
+
+-- abbrev pub μ-solve : Measures 2 solve-kinds.ps ℕ
+-- μ-solve κs a = 5 * length_cell a.0.now a.1.1.1.1.1.0
+
+abbrev pub invariant-part-loop-c : goal.invariant-part-loop-c
+invariant-part-loop-c l =
+    (l.c ≤ l.n)
+    × ((s : Sheet) (v : List ℕ) → PartEntry s l.plan l.units l.initial.rows l.bar l.q l.l l.left l.from l.to v → l.zero ≡ get_or v 0 0 → MovedTo v 0 l.initial.a l.initial.b l.initial.d
+    → l.e ≡ get_or v 3 0 → MovedTo v l.c l.a l.b l.d × Taken s l.rows (item_at s l.q l.l l.left) v l.c l.o)
+
+abbrev pub decreases-part-loop-c : goal.decreases-part-loop-c
+decreases-part-loop-c l = l.n - l.c
+
+abbrev pub invariant-parts-loop-j : goal.invariant-parts-loop-j
+invariant-parts-loop-j l =
+    (l.i ≤ l.j) × (l.j ≤ l.k) × (l.lo + l.i * l.len.0 ≡ l.initial.lo + l.j * l.len.0) × ((s : Sheet) (e : PartsEntry s l.plan l.units l.initial.rows l.bar l.r l.i l.k l.l (units l.initial.lo) l.from l.c)
+    → PartsDone s l.rows (kids_of e) l.l (units l.initial.lo) l.c (l.j - l.i) l.lo l.at l.v)
+
+abbrev pub decreases-parts-loop-j : goal.decreases-parts-loop-j
+decreases-parts-loop-j l = l.k - l.j
+
+abbrev pub invariant-solve-loop-n : goal.invariant-solve-loop-n
+invariant-solve-loop-n l =
+    (s : Sheet) (e : SolveEntry s l.plan l.units l.initial.rows l.bar l.q l.l l.left l.from l.c l.at) → Done e l.rows l.n l.best
+
+abbrev pub decreases-solve-loop-n : goal.decreases-solve-loop-n
+decreases-solve-loop-n l = l.last - l.n
