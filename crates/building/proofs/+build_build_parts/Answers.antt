@@ -1,6 +1,7 @@
 -- `build` and `build_parts` meet their contracts, as one cycle of calls. The measure is twice the interval's length, and one more for the
 -- parts: a division's parts are shorter than its interval. The invariant of the loop over the parts: the first j parts are built
 -- (`InParts`), and `lo` is the left bound of the next. The needs of each member are met in a file of its own. Assumes nothing.
+use mathlib.Core.List.{[]}
 use Prim.Native.Nat.{◌+◌, ◌%◌, ◌≤◌}
 use mathlib.Core.Path.{sym, ap, ◌∙◌, ◌≡◌}
 use mathlib.Core.List.{◌∷◌}
@@ -23,20 +24,20 @@ use Rattle.building.proofs.+build_build_parts.Goals as goal
 
 -- ---- build
 
-chosen : (c : After-split_at-split) build.Post) (s : Sheet) → (let a = c.args in
+chosen : (c : After-split_at-split) (s : Sheet) → (let a = c.args in
     BuildPre s a.plan.now a.units.now a.rows.now a.tree.now a.bar a.q a.l a.left a.from a.c a.y
     a.v a.to)
     → let a = c.args in
     Chosen s (item_at s a.q a.l a.left) (at a.v) a.c ((c.least_cell.result % 64))
 chosen c s h = build_chosen h _ c.least_cell.ensures
 
-split : (c : After-split_at-split) build.Post) (s : Sheet) → (let a = c.args in
+split : (c : After-split_at-split) (s : Sheet) → (let a = c.args in
     BuildPre s a.plan.now a.units.now a.rows.now a.tree.now a.bar a.q a.l a.left a.from a.c a.y
     a.v a.to)
     → SplitAt s c.args.q c.args.l ((c.least_cell.result % 64)) c.split_at-split.result
 split c s h = c.split_at-split.ensures.1 s h.entry.stands.in_bar_lem.prepared h.entry.stands.length_in
 
-entry : (c : Else-k-eq0) build.Post) (s : Sheet) → (let a = c.args in
+entry : (c : Else-k-eq0) (s : Sheet) → (let a = c.args in
     BuildPre s a.plan.now a.units.now a.rows.now a.tree.now a.bar a.q a.l a.left a.from a.c a.y
     a.v a.to)
     → let a = c.args in
@@ -45,33 +46,33 @@ entry : (c : Else-k-eq0) build.Post) (s : Sheet) → (let a = c.args in
     PartsBuildPre s a.plan.now a.units.now a.rows.now (set a.tree.now a.to rule) a.bar rule p.arity p.part
     a.left a.from a.c a.v (a.to + 1)
 entry c s h =
-    let chosen-here : build.Post) (s : Sheet) → (let a = c.args in
+    let chosen-here : (s : Sheet) → (let a = c.args in
     BuildPre s a.plan.now a.units.now a.rows.now a.tree.now a.bar a.q a.l a.left a.from a.c a.y
     a.v a.to)
     → let a = c.args in
     Chosen s (item_at s a.q a.l a.left) (at a.v) a.c ((c.least_cell.result % 64)) =
     λ s h. build_chosen h _ c.least_cell.ensures in
-    let split-here : build.Post) (s : Sheet) → (let a = c.args in
+    let split-here : (s : Sheet) → (let a = c.args in
     BuildPre s a.plan.now a.units.now a.rows.now a.tree.now a.bar a.q a.l a.left a.from a.c a.y
     a.v a.to)
     → SplitAt s c.args.q c.args.l ((c.least_cell.result % 64)) c.split_at-split.result =
     λ s h. c.split_at-split.ensures.1 s h.entry.stands.in_bar_lem.prepared h.entry.stands.length_in in
     build_parts_entry h ((c.least_cell.result % 64)) (chosen-here s h) c.split_at-split.result (split-here s h) c.if-k-eq0.false
 
-built : (c : After-build_parts) build.Post) (s : Sheet) → (let a = c.args in
+built : (c : After-build_parts) (s : Sheet) → (let a = c.args in
     BuildPre s a.plan.now a.units.now a.rows.now a.tree.now a.bar a.q a.l a.left a.from a.c a.y
     a.v a.to)
     → let a = c.args in
     BuiltAs s c.build_parts.new.rows a.tree.now c.build_parts.new.tree (item_at s a.q a.l a.left ∷ [])
     (at a.v) a.c a.to c.build_parts.result
 built c s h =
-    let chosen-here : build.Post) (s : Sheet) → (let a = c.args in
+    let chosen-here : (s : Sheet) → (let a = c.args in
     BuildPre s a.plan.now a.units.now a.rows.now a.tree.now a.bar a.q a.l a.left a.from a.c a.y
     a.v a.to)
     → let a = c.args in
     Chosen s (item_at s a.q a.l a.left) (at a.v) a.c ((c.least_cell.result % 64)) =
     λ s h. build_chosen h _ c.least_cell.ensures in
-    let split-here : build.Post) (s : Sheet) → (let a = c.args in
+    let split-here : (s : Sheet) → (let a = c.args in
     BuildPre s a.plan.now a.units.now a.rows.now a.tree.now a.bar a.q a.l a.left a.from a.c a.y
     a.v a.to)
     → SplitAt s c.args.q c.args.l ((c.least_cell.result % 64)) c.split_at-split.result =

@@ -1,4 +1,5 @@
 -- `rhythm_write` meets its contract: the cells are the numbers of the score, and the score slice is what `write` leaves. Assumes nothing.
+use mathlib.Core.List.{[]}
 use mathlib.Core.Path.{ap}
 use mathlib.Core.List.{◌∷◌}
 use Rattle.score.specs.declared.Written.{Written}

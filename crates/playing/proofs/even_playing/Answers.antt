@@ -1,5 +1,6 @@
 -- `even_playing` meets its contract: the `45` line is not refused and has a duration, and each line behind it adds an onset. Assumes
 -- nothing.
+use mathlib.Core.List.{[]}
 use native.Mathlib.Omega.{arith}
 use Prim.Native.Nat.{ℕ, ◌+◌, ◌≤◌}
 use mathlib.Core.Path.{◌≡◌, sym, subst, ◌∙◌}
@@ -17,7 +18,7 @@ use Rattle.sheet.specs.GoodBars.{even_good}
 use Rattle.bar_lines.specs.Lines.{lines_in}
 use Rattle.playing.specs.Clauses.{TakeRead}
 use Rattle.playing.proofs.HeadLine.{head_held, head_within, head_passed, head_on}
-use Rattle.playing.proofs.even_playing.Goals.{Start}
+use Rattle.playing.proofs.even_playing.Goals.{After-four_at, Start}
 use Rattle.playing.proofs.even_playing.Goals as goal
 
 -- what is left has a number
@@ -28,20 +29,19 @@ left e z = omega (arith, e, z)
 held : (c : Start) → LineHeld c.args.l (line_bytes (drop c.args.at c.args.text.now))
 held c = head_held c.args.text.now c.args.at c.requires.1 _ c.requires.2 c.requires.3
 
-module _ (c : tie.After-four-at) where
-  abbrev s : tie.Start
-  s = start_of c
+-- the line is not refused
+met : (c : After-four_at) → playing_refusal (line_bytes (drop c.args.at c.args.text.now)) ≡ 0
+met c =
+    let held = head_held c.args.text.now c.args.at c.requires.1 _ c.requires.2 c.requires.3 in
+    sym (c.playing_refusal.ensures _ held) ∙ c.if-playing_refusal-ne0.false
 
-  met : playing_refusal (line_bytes (drop s.args.at s.args.text.now)) ≡ 0
-  met =
-      let at-if1 = c.before.before in
-      sym (at-if1.before.playing-refusal.ensures _ (held s)) ∙ at-if1.if1.false
-
-  passed : (1 ≤ c.before.byte_at.result) × (c.before.byte_at.result ≤ 64)
-      × ((c.four-at.result ≡ 0 → ⊥) → (1000 ≤ c.four-at.result) × (c.four-at.result ≤ 60_000_000))
-  passed =
-      head_passed s.args.text.now s.args.at s.pre.1 _ s.pre.2 s.pre.3 met _ _
-      (c.before.byte_at.ensures _ (held s)) (c.four-at.ensures _ (held s))
+-- so its numbers are within their ranges
+passed : (c : After-four_at) → (1 ≤ c.byte_at-bars.result) × (c.byte_at-bars.result ≤ 64)
+    × ((c.four_at.result ≡ 0 → ⊥) → (1000 ≤ c.four_at.result) × (c.four_at.result ≤ 60_000_000))
+passed c =
+    let held = head_held c.args.text.now c.args.at c.requires.1 _ c.requires.2 c.requires.3 in
+    let met = sym (c.playing_refusal.ensures _ held) ∙ c.if-playing_refusal-ne0.false in
+    head_passed c.args.text.now c.args.at c.requires.1 _ c.requires.2 c.requires.3 met _ _ (c.byte_at-bars.ensures _ held) (c.four_at.ensures _ held)
 
 pub returns-then-playing_refusal-ne0 : goal.returns-then-playing_refusal-ne0
 returns-then-playing_refusal-ne0 c z = absurd (left c.refused_take.ensures.0 z)

@@ -58,7 +58,7 @@ loop-at-preserved c line few pos =
     let loop = c.loop-at in
     let next : line + loop.n + 1 ≡ line + (loop.n + 1) = omega arith in
     renumbered next
-    (onsets_more (loop.inv line few pos) (search rules) _ c.seven_at-l.ensures (taken (goal.at.loop-at-preserved c).Else-step-ne0).filled _ (taken (goal.at.loop-at-preserved c).Else-step-ne0).step
+    (onsets_more (loop.invariant line few pos) (search rules) _ c.seven_at-l.ensures (taken (goal.at.loop-at-preserved c).Else-step-ne0).filled _ (taken (goal.at.loop-at-preserved c).Else-step-ne0).step
     c.if-step-ne0.false _ c.byte_at.ensures _ refl)
 
 -- there is none

@@ -15,7 +15,7 @@ use Rattle.bar_lines.specs.Lines.{lines_in, bars_next}
 use Rattle.playing.specs.Clauses.{TakeRead}
 use Rattle.playing.proofs.OnsetLoop.{take_refused}
 use Rattle.playing.proofs.HeadLine.{head_held, head_within, head_refused, head_passed, head_on}
-use Rattle.playing.proofs.read_playing.Goals.{After-four_at, Start}
+use Rattle.playing.proofs.read_playing.Goals.{After-four_at, After-read_bars-read, Start}
 use Rattle.playing.proofs.read_playing.Goals as goal
 
 -- the line as it is held
@@ -29,16 +29,15 @@ met c =
     sym (c.playing_refusal-number.ensures _ (held-here)) ∙ c.if-number-ne0.false
 
 -- what the `45` line comes to is what the bar lines behind it come to
-module _ (c : tie.After-read-bars) (g : Grammar) (some : 1 ≤ length g.rules) (kind : (start_of c.before).args.l.kind ≡ 0x45) where
-  abbrev s : tie.Start
-  s = start_of c.before
-
-  on : read_rest (in_rules g) s.args.line (drop s.args.at s.args.text.now)
-      ≡ read_rest (bars_next g c.before.before.byte_at.result c.before.four-at.result) (s.args.line + 1)
-      (drop s.args.l.next s.args.text.now)
-  on =
-      head_on s.args.text.now s.args.at s.pre.1 _ s.pre.4 s.pre.5 s.args.line g some kind (met c.before) _ _
-      (c.before.before.byte_at.ensures _ (held s)) (c.before.four-at.ensures _ (held s))
+on : (c : After-read_bars-read) (g : Grammar) → 1 ≤ length g.rules → c.args.l.kind ≡ 0x45
+    → read_rest (in_rules g) c.args.line (drop c.args.at c.args.text.now)
+    ≡ read_rest (bars_next g c.byte_at-bars.result c.four_at.result) (c.args.line + 1) (drop c.args.l.next c.args.text.now)
+on c g some kind =
+    let text = c.args.text.now in
+    let pre = c.requires in
+    let held = head_held text c.args.at pre.1 _ pre.4 pre.5 in
+    let met = sym (c.playing_refusal-number.ensures _ held) ∙ c.if-number-ne0.false in
+    head_on text c.args.at pre.1 _ pre.4 pre.5 c.args.line g some kind met _ _ (c.byte_at-bars.ensures _ held) (c.four_at.ensures _ held)
 
 pub returns-then-number-ne0 : goal.returns-then-number-ne0
 returns-then-number-ne0 c g good some kind =

@@ -1,81 +1,200 @@
-use Rattle.search.proofs.forward.Goals as goal
--- `forward` meets its contract. The invariant of the loop: the rows of the bars before bar b are stored, v is the vector before it, and the
--- bars before bar `done` are committed (`Going`). A turn fills bar b ahead, stores its rows and takes v over it. Where nothing is carried
--- over its end, the bars up to there are committed. What is known at each place is in `Places`. Assumes nothing.
-mod Places
 use mathlib.Core.Path.{refl, sym, ◌∙◌}
 use native.Mathlib.Omega.{arith}
-use borrow.Author.Rules.{rules}
 use Rattle.search.proofs.EnterSteps.{few_bars, bar_enter}
 use Rattle.search.proofs.CommitSteps.{forwarded_low, going_none, going_fill, going_committed, going_none_found, going_found}
-use Rattle.search.proofs.forward.Proof.Places.{Inv-loop, μ-loop, start_of, fill-loop, pass-fill, pass-loop, cut-pass}
 use Rattle.search.proofs.forward.Proof.Places.{is-bar, pass-entry, more, cut-vector, commit-entry, all-passed, last_entry}
-use Rattle.search.proofs.forward.Statement.{statement}
-use Rattle.search.proofs.forward.Tie as tie
+use Prim.Native.Nat.{◌+◌}
+use mathlib.Core.Path.{◌≡◌}
+use Rattle.sheet.specs.Sheet.{Sheet}
+use Rattle.search.specs.Clauses.{bar_of, PassPre, RootsTo, CutVector, CommitPre, ForwardPre}
+use Rattle.search.proofs.EnterSteps.{bar_enter}
+use Rattle.search.proofs.PassSteps.{forward_pass, forward_more}
+use Rattle.search.proofs.CommitSteps.{Going, going_fill, going_filled, going_more, going_commit, going_last}
+use Rattle.search.proofs.forward.Goals.{After-enter-bar, After-fill_bar, After-loop-b, After-pass-w, Else-total-ge-NONE, Then-is_cut_point}
+use Rattle.search.proofs.forward.Goals as goal
+
+is-bar : (c : After-enter-bar) (s : Sheet) → (let a = c.args in
+    ForwardPre s a.plan.now a.units.now a.order.now a.rows.now a.tree.now a.roots.now a.vectors.now
+    a.start a.count)
+    → c.enter-bar.result ≡ bar_of s c.loop-b.b
+is-bar c s h = c.enter-bar.ensures s (bar_enter h.entry c.loop-b.b c.loop-b-test.true)
+
+filled : (c : After-fill_bar) (s : Sheet) → (let a = c.args in
+    ForwardPre s a.plan.now a.units.now a.order.now a.rows.now a.tree.now a.roots.now a.vectors.now
+    a.start a.count) → let loop = c.loop-b in
+    Going s c.fill_bar.new.rows loop.tree loop.roots loop.b loop.v loop.done loop.next
+filled c s h =
+    let is-bar-here : (s : Sheet) → (let a = c.args in
+    ForwardPre s a.plan.now a.units.now a.order.now a.rows.now a.tree.now a.roots.now a.vectors.now
+    a.start a.count)
+    → c.enter-bar.result ≡ bar_of s c.loop-b.b =
+    λ s h. c.enter-bar.ensures s (bar_enter h.entry c.loop-b.b c.loop-b-test.true) in
+    let so_far = c.loop-b.invariant.4 s h in
+    going_filled h so_far (c.fill_bar.ensures s (going_fill h so_far c.loop-b-test.true (is-bar-here s h)))
+
+pass-entry : (c : After-fill_bar) (s : Sheet) → (let a = c.args in
+    ForwardPre s a.plan.now a.units.now a.order.now a.rows.now a.tree.now a.roots.now a.vectors.now
+    a.start a.count) → let a = c.args in
+    let loop = c.loop-b in
+    let bar = c.enter-bar.result in
+    PassPre s a.plan.now a.units.now c.fill_bar.new.rows bar a.start loop.v
+    × RootsTo s loop.roots bar.number 0
+pass-entry c s h =
+    let is-bar-here : (s : Sheet) → (let a = c.args in
+    ForwardPre s a.plan.now a.units.now a.order.now a.rows.now a.tree.now a.roots.now a.vectors.now
+    a.start a.count)
+    → c.enter-bar.result ≡ bar_of s c.loop-b.b =
+    λ s h. c.enter-bar.ensures s (bar_enter h.entry c.loop-b.b c.loop-b-test.true) in
+    let filled-here : (s : Sheet) → (let a = c.args in
+    ForwardPre s a.plan.now a.units.now a.order.now a.rows.now a.tree.now a.roots.now a.vectors.now
+    a.start a.count) → let loop = c.loop-b in
+    Going s c.fill_bar.new.rows loop.tree loop.roots loop.b loop.v loop.done loop.next =
+    λ s h. let so_far = c.loop-b.invariant.4 s h in
+    going_filled h so_far (c.fill_bar.ensures s (going_fill h so_far c.loop-b-test.true (is-bar-here s h))) in
+    forward_pass h.entry (filled-here s h).forwarded c.loop-b-test.true (is-bar-here s h)
+
+more : (c : After-pass-w) (s : Sheet) → (let a = c.args in
+    ForwardPre s a.plan.now a.units.now a.order.now a.rows.now a.tree.now a.roots.now a.vectors.now
+    a.start a.count) → let loop = c.loop-b in
+    Going s c.pass-w.new.rows loop.tree c.pass-w.new.roots (loop.b + 1) c.pass-w.result loop.done loop.next
+more c s h =
+    let is-bar-here : (s : Sheet) → (let a = c.args in
+    ForwardPre s a.plan.now a.units.now a.order.now a.rows.now a.tree.now a.roots.now a.vectors.now
+    a.start a.count)
+    → c.enter-bar.result ≡ bar_of s c.loop-b.b =
+    λ s h. c.enter-bar.ensures s (bar_enter h.entry c.loop-b.b c.loop-b-test.true) in
+    let filled-here : (s : Sheet) → (let a = c.args in
+    ForwardPre s a.plan.now a.units.now a.order.now a.rows.now a.tree.now a.roots.now a.vectors.now
+    a.start a.count) → let loop = c.loop-b in
+    Going s c.fill_bar.new.rows loop.tree loop.roots loop.b loop.v loop.done loop.next =
+    λ s h. let so_far = c.loop-b.invariant.4 s h in
+    going_filled h so_far (c.fill_bar.ensures s (going_fill h so_far c.loop-b-test.true (is-bar-here s h))) in
+    let pass-entry-here : (s : Sheet) → (let a = c.args in
+    ForwardPre s a.plan.now a.units.now a.order.now a.rows.now a.tree.now a.roots.now a.vectors.now
+    a.start a.count) → let a = c.args in
+    let loop = c.loop-b in
+    let bar = c.enter-bar.result in
+    PassPre s a.plan.now a.units.now c.fill_bar.new.rows bar a.start loop.v
+    × RootsTo s loop.roots bar.number 0 =
+    λ s h. forward_pass h.entry (filled-here s h).forwarded c.loop-b-test.true (is-bar-here s h) in
+    let entry = pass-entry-here s h in
+    going_more h (filled-here s h) (forward_more (is-bar-here s h) (c.pass-w.ensures s entry.0 entry.1))
+
+cut-vector : (c : Then-is_cut_point) (s : Sheet) → (let a = c.args in
+    ForwardPre s a.plan.now a.units.now a.order.now a.rows.now a.tree.now a.roots.now a.vectors.now
+    a.start a.count) → CutVector s c.pass-w.result
+cut-vector c s h = c.is_cut_point.ensures s h.entry.prepared c.if-is_cut_point.true
+
+commit-entry : (c : Then-is_cut_point) (s : Sheet) → (let a = c.args in
+    ForwardPre s a.plan.now a.units.now a.order.now a.rows.now a.tree.now a.roots.now a.vectors.now
+    a.start a.count) → let a = c.args in
+    let loop = c.loop-b in
+    CommitPre s a.plan.now a.units.now c.pass-w.last.1.1.0 loop.tree c.pass-w.last.1.1.1.0
+    loop.vectors a.start loop.done (loop.b + 1) loop.next
+commit-entry c s h =
+    let is-bar-here : (s : Sheet) → (let a = c.args in
+    ForwardPre s a.plan.now a.units.now a.order.now a.rows.now a.tree.now a.roots.now a.vectors.now
+    a.start a.count)
+    → c.enter-bar.result ≡ bar_of s c.loop-b.b =
+    λ s h. c.enter-bar.ensures s (bar_enter h.entry c.loop-b.b c.loop-b-test.true) in
+    let filled-here : (s : Sheet) → (let a = c.args in
+    ForwardPre s a.plan.now a.units.now a.order.now a.rows.now a.tree.now a.roots.now a.vectors.now
+    a.start a.count) → let loop = c.loop-b in
+    Going s c.fill_bar.new.rows loop.tree loop.roots loop.b loop.v loop.done loop.next =
+    λ s h. let so_far = c.loop-b.invariant.4 s h in
+    going_filled h so_far (c.fill_bar.ensures s (going_fill h so_far c.loop-b-test.true (is-bar-here s h))) in
+    let pass-entry-here : (s : Sheet) → (let a = c.args in
+    ForwardPre s a.plan.now a.units.now a.order.now a.rows.now a.tree.now a.roots.now a.vectors.now
+    a.start a.count) → let a = c.args in
+    let loop = c.loop-b in
+    let bar = c.enter-bar.result in
+    PassPre s a.plan.now a.units.now c.fill_bar.new.rows bar a.start loop.v
+    × RootsTo s loop.roots bar.number 0 =
+    λ s h. forward_pass h.entry (filled-here s h).forwarded c.loop-b-test.true (is-bar-here s h) in
+    let more-here : (s : Sheet) → (let a = c.args in
+    ForwardPre s a.plan.now a.units.now a.order.now a.rows.now a.tree.now a.roots.now a.vectors.now
+    a.start a.count) → let loop = c.loop-b in
+    Going s c.pass-w.new.rows loop.tree c.pass-w.new.roots (loop.b + 1) c.pass-w.result loop.done loop.next =
+    λ s h. let entry = pass-entry-here s h in
+    going_more h (filled-here s h) (forward_more (is-bar-here s h) (c.pass-w.ensures s entry.0 entry.1)) in
+    let cut-vector-here : (s : Sheet) → (let a = c.args in
+    ForwardPre s a.plan.now a.units.now a.order.now a.rows.now a.tree.now a.roots.now a.vectors.now
+    a.start a.count) → CutVector s c.pass-w.result =
+    λ s h. c.is_cut_point.ensures s h.entry.prepared c.if-is_cut_point.true in
+    going_commit h (more-here s h) (omega (arith, c.loop-b-test.true)) c.loop-b.invariant.2 (cut-vector-here s h).reached
+
+all-passed : (c : After-loop-b) → c.loop-b.b ≡ c.args.count
+all-passed c = omega (arith, c.loop-b-test.false, c.loop-b.invariant.0)
+
+last_entry : (c : Else-total-ge-NONE) (s : Sheet) → (let a = c.args in
+    ForwardPre s a.plan.now a.units.now a.order.now a.rows.now a.tree.now a.roots.now a.vectors.now
+    a.start a.count) → let a = c.args in
+    let loop = c.loop-b in
+    CommitPre s a.plan.now a.units.now loop.rows loop.tree loop.roots loop.vectors a.start loop.done a.count
+    loop.next
+last_entry c s h =
+    let all-passed-here : c.loop-b.b ≡ c.args.count =
+    omega (arith, c.loop-b-test.false, c.loop-b.invariant.0) in
+    let loop = c.loop-b in
+    going_last h (loop.invariant.4 s h) (all-passed-here) loop.invariant.2 (omega (arith, c.if-total-ge-NONE.false))
 
 pub loop-b-init : goal.loop-b-init
 loop-b-init c = (omega arith, refl, refl, refl, λ s h. going_none h c.only_at-v.ensures)
 
 pub enter-bar-requires : goal.enter-bar-requires
 enter-bar-requires c =
-    let at-start = start_of (goal.at.enter-bar-requires c).At-loop-b in
-    (at-start.pre.0, bar_enter at-start.pre.1.entry c.loop-b.b c.loop-b-test.true)
+    (c.requires.0, bar_enter c.requires.1.entry c.loop-b.b c.loop-b-test.true)
 
 pub fill_bar-requires : goal.fill_bar-requires
 fill_bar-requires c =
-    let s = (start_of (goal.at.fill_bar-requires c).At-loop-b).requires.0 in
-    let h = (start_of (goal.at.fill_bar-requires c).At-loop-b).requires.1 in
+    let s = c.requires.0 in
+    let h = c.requires.1 in
     (s, going_fill h (c.loop-b.invariant.4 s h) c.loop-b-test.true (is-bar (goal.at.fill_bar-requires c).After-enter-bar s h))
 
 pub pass-w-requires : goal.pass-w-requires
 pass-w-requires c =
-    let at-start = start_of (fill-loop (goal.at.pass-w-requires c).After-fill_bar) in
-    let entry = pass-entry (goal.at.pass-w-requires c).After-fill_bar _ at-start.pre.1 in
-    (at-start.pre.0, entry.0, entry.1)
+    let entry = pass-entry (goal.at.pass-w-requires c).After-fill_bar _ c.requires.1 in
+    (c.requires.0, entry.0, entry.1)
 
 pub overflow_add-b : goal.overflow_add-b
 overflow_add-b c =
-    let at_fill_lem = pass-fill (goal.at.overflow_add-b c).After-pass-w in
-    let h = (start_of (fill-loop at_fill_lem)).pre.1 in
-    record { fits = omega (arith, few_bars h.entry, at_fill_lem.before.before.before.loop-test.taken) }
+    let h = c.requires.1 in
+    record { fits = omega (arith, few_bars h.entry, c.loop-b-test.true) }
 
 pub is_cut_point-requires : goal.is_cut_point-requires
 is_cut_point-requires c =
-    let at-start = start_of (pass-loop (goal.at.is_cut_point-requires c).After-pass-w) in
-    let h = at-start.pre.1 in
-    (forwarded_low (more (goal.at.is_cut_point-requires c).After-pass-w _ h).forwarded, (at-start.pre.0, h.entry.prepared))
+    let h = c.requires.1 in
+    (forwarded_low (more (goal.at.is_cut_point-requires c).After-pass-w _ h).forwarded, (c.requires.0, h.entry.prepared))
 
 pub commit-next-requires : goal.commit-next-requires
 commit-next-requires c =
-    let at-start = start_of (pass-loop (cut-pass (goal.at.commit-next-requires c).After-is_cut_point)) in
-    (at-start.pre.0, commit-entry (goal.at.commit-next-requires c).After-is_cut_point _ at-start.pre.1)
+    (c.requires.0, commit-entry (goal.at.commit-next-requires c).Then-is_cut_point _ c.requires.1)
 
 -- the bars up to bar b + 1 are committed
 pub loop-b-preserved-then-is_cut_point : goal.loop-b-preserved-then-is_cut_point
 loop-b-preserved-then-is_cut_point c =
-    let at-pass = cut-pass (goal.at.loop-b-preserved-then-is_cut_point c).After-is_cut_point in
-    let loop = (pass-loop at-pass).loop in (
-      omega (arith, (pass-fill at-pass).before.before.before.loop-test.taken),
-      at-pass.pass.kept.1.1.1.0 ∙ loop.inv.1,
-      c.commit-next.auto.1.1.1.1.0 ∙ loop.inv.2,
-      c.commit-next.auto.1.1.1.0 ∙ loop.inv.3,
-      λ s h. going_committed h (more at-pass s h) (cut-vector (goal.at.loop-b-preserved-then-is_cut_point c).After-is_cut_point s h) (c.commit-next.ensures s (commit-entry (goal.at.loop-b-preserved-then-is_cut_point c).After-is_cut_point s h)),
+    let loop = c.loop-b in (
+      omega (arith, c.loop-b-test.true),
+      c.pass-w.kept.1.1.1.0 ∙ loop.invariant.1,
+      c.commit-next.auto.1.1.1.1.0 ∙ loop.invariant.2,
+      c.commit-next.auto.1.1.1.0 ∙ loop.invariant.3,
+      λ s h. going_committed h (more (goal.at.loop-b-preserved-then-is_cut_point c).After-pass-w s h) (cut-vector (goal.at.loop-b-preserved-then-is_cut_point c).Then-is_cut_point s h) (c.commit-next.ensures s (commit-entry (goal.at.loop-b-preserved-then-is_cut_point c).Then-is_cut_point s h)),
     )
 
 -- something may be carried into bar b + 1
 pub loop-b-preserved : goal.loop-b-preserved
 loop-b-preserved c =
-    let loop = (pass-loop (goal.at.loop-b-preserved c).After-pass-w).loop in (
-      omega (arith, (pass-fill (goal.at.loop-b-preserved c).After-pass-w).before.before.before.loop-test.true),
-      c.pass-w.auto.1.1.1.0 ∙ loop.inv.1,
-      loop.inv.2,
-      loop.inv.3,
+    let loop = c.loop-b in (
+      omega (arith, c.loop-b-test.true),
+      c.pass-w.auto.1.1.1.0 ∙ loop.invariant.1,
+      loop.invariant.2,
+      loop.invariant.3,
       λ s h. more (goal.at.loop-b-preserved c).After-pass-w s h,
     )
 
 pub shape_of-rows-then-total-ge-NONE : goal.shape_of-rows-then-total-ge-NONE
 shape_of-rows-then-total-ge-NONE c =
-    let h = (start_of (goal.at.shape_of-rows-then-total-ge-NONE c).At-loop-b).requires.1 in
+    let h = c.requires.1 in
     (c.loop-b.invariant.4 _ h).forwarded.sound.size ∙ sym h.entry.sound.size
 
 pub shape_of-tree-then-total-ge-NONE : goal.shape_of-tree-then-total-ge-NONE
@@ -94,12 +213,11 @@ returns-then-total-ge-NONE c =
 
 pub commit-nodes-requires : goal.commit-nodes-requires
 commit-nodes-requires c =
-    let at-start = start_of (goal.at.commit-nodes-requires c).After-only_at-v in
-    (at-start.pre.0, last_entry (goal.at.commit-nodes-requires c).After-loop-b _ at-start.pre.1)
+    (c.requires.0, last_entry (goal.at.commit-nodes-requires c).Else-total-ge-NONE _ c.requires.1)
 
 pub shape_of-rows : goal.shape_of-rows
 shape_of-rows c =
-    let h = (start_of (goal.at.shape_of-rows c).After-only_at-v).requires.1 in
+    let h = c.requires.1 in
     c.commit-nodes.auto.1.1.0 ∙ (c.loop-b.invariant.4 _ h).forwarded.sound.size ∙ sym h.entry.sound.size
 
 pub shape_of-tree : goal.shape_of-tree
@@ -117,5 +235,5 @@ shape_of-vectors c =
 -- all bars are committed
 pub returns : goal.returns
 returns c =
-    λ s h. going_found h (c.loop-b.invariant.4 s h) (all-passed (goal.at.returns c).At-loop-b) (omega (arith, c.if-total-ge-NONE.false))
-    (c.commit-nodes.ensures s (last_entry (goal.at.returns c).After-loop-b s h))
+    λ s h. going_found h (c.loop-b.invariant.4 s h) (all-passed (goal.at.returns c).After-loop-b) (omega (arith, c.if-total-ge-NONE.false))
+    (c.commit-nodes.ensures s (last_entry (goal.at.returns c).Else-total-ge-NONE s h))

@@ -15,7 +15,7 @@ use Rattle.sizes.specs.Sizes.{lengths_of}
 use Rattle.sizes.specs.Held.{length_table}
 use Rattle.search.specs.Clauses.{row_cells, RowCellsPre, ParsePre, SearchPre}
 use Rattle.search.proofs.SearchSteps.{onsets_few, cells_few, cells_fit, cells_all, bars_are, parse_entry, lent_length, searched}
-use Rattle.search.proofs.least_tree.Goals.{After-row_cells-cells, Start}
+use Rattle.search.proofs.least_tree.Goals.{After-most_in_bar, After-row_cells-cells, Start}
 use Rattle.search.proofs.least_tree.Goals as goal
 
 -- that of the contract
@@ -24,12 +24,13 @@ asked : (c : Start) → (let a = c.args in
 asked c = (c.requires.1, c.requires.2)
 
 -- the cells of the rows may be counted
-counted : (c : tie.After-most-in-bar) (s : Sheet) → Asked (start_of c) s
-    → RowCellsPre s (plan-of c) c.most-in-bar.result
+counted : (c : After-most_in_bar) (s : Sheet) → (let a = c.args in
+    SearchPre s a.grammar a.playing a.tree.now a.work.now × (a.reached ≡ length_table (lengths_of s.grammar.rules)))
+    → RowCellsPre s c.prepare.new.plan c.most_in_bar.result
 counted c s (h, lengths) = record {
-  prepared = (units-place c).before.prepare.ensures s h.held.good.rules h.held.grammar lengths;
+  prepared = c.prepare.ensures s h.held.good.rules h.held.grammar lengths;
   onsets = h.held.good.onsets;
-  most_is = c.most-in-bar.ensures.1 s.playing h.held.good.onsets h.held.playing;
+  most_is = c.most_in_bar.ensures.1 s.playing h.held.good.onsets h.held.playing;
 }
 
 -- they are the sheet's, and the work slice has them

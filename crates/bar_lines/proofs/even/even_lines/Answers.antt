@@ -44,5 +44,5 @@ pub returns : goal.returns
 returns c =
     let inv = c.loop-i.invariant in
     let all : c.loop-i.i ≡ c.args.bars + 1 = omega (arith, inv.1, c.loop-i-test.false) in
-    let few (goal.at.returns c).In-loop-i c.requires.0 in
-    even_in _ _ _ _ (subst (Filled _ _ _) all inv.0) (let size = inv.2 in omega (arith, size, few (goal.at.returns c).In-loop-i)
+    let most = c.requires.0 in
+    even_in _ _ _ _ (subst (Filled _ _ _) all inv.0) (let size = inv.2 in omega (arith, size, most))

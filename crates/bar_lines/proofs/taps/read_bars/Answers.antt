@@ -1,4 +1,5 @@
 -- `read_bars` meets its contract: taps are read, or the onsets follow at once. Assumes nothing.
+use mathlib.Core.List.{[]}
 use mathlib.Core.Path.{refl, sym, subst}
 use mathlib.Core.Bool.{false, cond}
 use lib.ListN.{drop}

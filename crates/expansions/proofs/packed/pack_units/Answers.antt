@@ -1,3 +1,4 @@
+use mathlib.Core.List.{[]}
 use borrow.Author.Rules.{rules}
 use mathlib.Core.Path.{◌≡◌, ap, ◌∙◌}
 use mathlib.Core.List.{List, map}

@@ -16,7 +16,7 @@ use Rattle.rows.proofs.one.+part_one_rule_one_solve_one.Given as goal
 abbrev pub invariant-solve_one-loop-n : goal.invariant-solve_one-loop-n
 invariant-solve_one-loop-n l =
     (s : Sheet) (e : OneEntry s l.plan l.units l.initial.rows l.bar l.q l.l l.left l.from l.at)
-    → Done e.entry l.rows l.n (pair_row (record { l.zero = l.zero; l.one = l.one }))
+    → Done e.entry l.rows l.n (pair_row (record { zero = l.zero; one = l.one }))
 
 abbrev pub decreases-solve_one-loop-n : goal.decreases-solve_one-loop-n
 decreases-solve_one-loop-n l = l.last - l.n

@@ -69,12 +69,12 @@ loop-c-preserved c =
     let loop = c.loop-c in
     let few = c.loop-c-test.true in
     let h = c.requires.1 in
-    let so_far = loop.inv.2 _ h c.requires.2 in
+    let so_far = loop.invariant.2 _ h c.requires.2 in
     let same = passing_stored so_far few h.bar_in c.root_row-y.result c.store.ensures in (
       omega (arith, few),
-      same ∙ loop.inv.1,
+      same ∙ loop.invariant.1,
       λ s h are.
-          passing_more (loop.inv.2 s h are) few h.bar_in (rooted (goal.at.loop-c-preserved c).After-root_row-y s h are) h.prepared.good h.before
+          passing_more (loop.invariant.2 s h are) few h.bar_in (rooted (goal.at.loop-c-preserved c).After-root_row-y s h are) h.prepared.good h.before
           c.totals.ensures c.relax-w.ensures c.store.ensures,
     )
 

@@ -29,7 +29,7 @@ told : (c : After-suffix_step-w) (s : Sheet) → (let a = c.args in
 told c s h =
     let loop = c.loop-b in
     c.suffix_step-w.ensures s c.args.end
-    (backward_entry h c.loop-b-test.true loop.inv.0 (loop.inv.3 s h))
+    (backward_entry h c.loop-b-test.true loop.invariant.0 (loop.invariant.3 s h))
 
 pub overflow_mul-end : goal.overflow_mul-end
 overflow_mul-end c =
@@ -71,11 +71,11 @@ loop-b-preserved c =
     let loop = c.loop-b in
     let h = given (goal.at.loop-b-preserved c).At-loop-b in
     let more = c.loop-b-test.true in
-    let room = backward_room h more loop.inv.0 (loop.inv.3 _ h) in (
-      omega (arith, loop.inv.0),
+    let room = backward_room h more loop.invariant.0 (loop.invariant.3 _ h) in (
+      omega (arith, loop.invariant.0),
       omega (arith, more),
-      length-stored loop.vectors c.suffix_step-w.result (4 * (loop.b - 1)) room c.store-in-loop-b.ensures ∙ loop.inv.2,
-      λ s e. backward_more e more loop.inv.0 (loop.inv.3 s e) (told (goal.at.loop-b-preserved c).After-suffix_step-w s e) c.store-in-loop-b.ensures,
+      length-stored loop.vectors c.suffix_step-w.result (4 * (loop.b - 1)) room c.store-in-loop-b.ensures ∙ loop.invariant.2,
+      λ s e. backward_more e more loop.invariant.0 (loop.invariant.3 s e) (told (goal.at.loop-b-preserved c).After-suffix_step-w s e) c.store-in-loop-b.ensures,
     )
 
 pub shape_of-vectors : goal.shape_of-vectors

@@ -23,7 +23,7 @@ carry-few : (c : After-enter-bar) → c.loop-b.carry < 4
 carry-few c =
     let loop = c.loop-b in
     let h = c.requires.1 in
-    bar_carry h (loop.inv.2 _ h) loop.inv.1 c.loop-b-test.true
+    bar_carry h (loop.invariant.2 _ h) loop.invariant.1 c.loop-b-test.true
 
 entry : (c : After-load-v) (s : Sheet) → (let a = c.args in
     BarsBuildPre s a.plan.now a.units.now a.rows.now a.tree.now a.vectors.now a.roots.now a.start a.from
@@ -36,7 +36,7 @@ entry c s h =
     let loop = c.loop-b in
     let below = c.loop-b-test.true in
     let is-bar = c.enter-bar.ensures s (bar_enter h.committable.entry loop.b (omega (arith, below, h.committable.end_in))) in
-    bar_build h (loop.inv.2 s h) loop.inv.1 below c.load-y.ensures c.load-v.ensures is-bar
+    bar_build h (loop.invariant.2 s h) loop.invariant.1 below c.load-y.ensures c.load-v.ensures is-bar
 
 pub loop-b-init : goal.loop-b-init
 loop-b-init c =
@@ -60,7 +60,7 @@ pub load-y-requires : goal.load-y-requires
 load-y-requires c =
     let loop = c.loop-b in
     let h = c.requires.1 in
-    root_room h (loop.inv.2 _ h) loop.inv.1 c.loop-b-test.true
+    root_room h (loop.invariant.2 _ h) loop.invariant.1 c.loop-b-test.true
 
 pub overflow_cast-lo : goal.overflow_cast-lo
 overflow_cast-lo c = omega (arith, bar-few (goal.at.overflow_cast-lo c).After-enter-bar)
@@ -78,7 +78,7 @@ pub load-v-requires : goal.load-v-requires
 load-v-requires c =
     let loop = c.loop-b in
     let h = c.requires.1 in
-    vector_room h (loop.inv.2 _ h) loop.inv.1 c.loop-b-test.true
+    vector_room h (loop.invariant.2 _ h) loop.invariant.1 c.loop-b-test.true
 
 pub build-built-requires : goal.build-built-requires
 build-built-requires c =
@@ -90,8 +90,8 @@ loop-b-preserved c =
     let loop = c.loop-b in
     let below = c.loop-b-test.true in (
       omega (arith, below),
-      omega (arith, loop.inv.1),
-      λ s h. in_bars_more h (loop.inv.2 s h) loop.inv.1 below c.load-y.ensures c.load-v.ensures
+      omega (arith, loop.invariant.1),
+      λ s h. in_bars_more h (loop.invariant.2 s h) loop.invariant.1 below c.load-y.ensures c.load-v.ensures
           {rows'' = c.build-built.new.rows} {then = c.build-built.new.tree}
           (c.build-built.ensures s (entry (goal.at.loop-b-preserved c).After-load-v s h)),
     )
