@@ -3,7 +3,7 @@
 -- them: the required lengths, the price of the bytes, that no tree totals less, and that none that totals as much comes before them.
 -- `FindingCases.all_answered` and `equals_answered` and `SlidingCases.slid_answered` say what this means of finding.
 use Rattle.std.specs.Prelude.{ℕ, ◌≡◌, refl, Bool, true, false, cond, ◌&&◌, List, [], ◌∷◌, ◌++◌, map, eqb, ltb, length, replicate}
-use Rattle.std.proofs.Math.Option.{Option·elim}
+use Rattle.std.proofs.Math.Option.{Option-elim}
 use Rattle.sheet.specs.Literal.{text_of}
 use Rattle.sheet.specs.Sheet.{Sheet, TimedSheet, in_bar}
 use Rattle.sheet.specs.Outcome.{Outcome, refused, accepted}
@@ -63,7 +63,7 @@ equals =
 pub equal_totals : price_text bar_or_halves (1 ∷ 4 ∷ 3 ∷ []) ∷ price_text longer (1 ∷ [])
     ∷ price_text over_bar_line (2 ∷ 3 ∷ 3 ∷ 1 ∷ []) ∷ []
     ≡ priced 3 9 5040 5040 ∷ priced 1 3 0 30 ∷ priced 4 224 3920 6160 ∷ []
-unfolding price_text on_sheet read_sheet price_sheet onto whose distance_to Option·elim
+unfolding price_text on_sheet read_sheet price_sheet onto whose distance_to Option-elim
 equal_totals = refl
 
 -- document 02, (xiv): S with a rest of the halves and one onset 10 ms before the middle of the bar. In halves, `010403`, R is 9 and D 101;
@@ -159,13 +159,13 @@ holds c = judged (read_sheet c.text) c
 
 -- the computed answers agree with every case
 pub all_computed : map holds cases ≡ replicate (length cases) true
-unfolding holds onto whose distance_to Option·elim
+unfolding holds onto whose distance_to Option-elim
 all_computed = refl
 
 pub slid_computed : map holds slid_cases ≡ replicate (length slid_cases) true
-unfolding holds onto whose distance_to Option·elim slid
+unfolding holds onto whose distance_to Option-elim slid
 slid_computed = refl
 
 pub equals_computed : map holds equals ≡ replicate (length equals) true
-unfolding holds onto whose distance_to Option·elim
+unfolding holds onto whose distance_to Option-elim
 equals_computed = refl

@@ -2,7 +2,7 @@
 -- left out of `SlidingLaws.undominated`.
 use Rattle.std.specs.Prelude.{ℕ, ◌+◌, ◌*◌, ◌≤◌, ◌≡◌, refl, List, [], ◌∷◌, length}
 use Rattle.std.proofs.Common.{ap, arith}
-use Rattle.std.proofs.Math.Option.{Option·elim}
+use Rattle.std.proofs.Math.Option.{Option-elim}
 use Rattle.slices.specs.Every.{Every}
 use Rattle.sheet.specs.Sheet.{division, leaf, Sheet}
 use Rattle.sheet.specs.Reading.{read_sheet}
@@ -45,7 +45,7 @@ tie_slid a h = slid_accepted bar_or_tie sheet_tie a tie_means h
 
 -- of its two trees `01` weighs 1 at distance 0, whatever the multiplier
 pub tie_lighter : (a : ℕ) → trees.Priced (with_multiplier a sheet_tie) (1 ∷ []) 1 0
-unfolding price_sheet onto whose distance_to Option·elim
+unfolding price_sheet onto whose distance_to Option-elim
 tie_lighter a = (price_own (with_multiplier a sheet_tie) (1 ∷ []) 1 1 0 (a * 1 + 0) refl).0
 
 -- With a = 0 the tree found may be dominated: on this sheet it weighs 3 at distance 0, and a valid tree weighs 1 at the same distance.

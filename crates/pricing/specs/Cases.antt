@@ -1,7 +1,7 @@
 -- Document 01's cases that pricing answers, through its own outcome, and wrong pricers that its contract refutes.
 use Rattle.std.specs.Prelude.{ℕ, ◌≡◌, refl, List, [], ◌∷◌}
 use Rattle.std.proofs.Common.{sym, ap, ◌∙◌, arith}
-use Rattle.std.proofs.Math.Option.{Option·elim}
+use Rattle.std.proofs.Math.Option.{Option-elim}
 use Rattle.sheet.specs.Outcome.{refused}
 use Rattle.sheet.specs.Reading.{read_sheet}
 use Rattle.sheet.specs.Cases.{S}
@@ -12,12 +12,12 @@ use Rattle.pricing.specs.Pricing.{priced, price_sheet, price_text, priced_of}
 
 -- "S with `00`": refusal 12
 pub S_refuses_00 : price_text S (0 ∷ []) ≡ refused 12 0
-unfolding price_text price_sheet read_sheet whose distance_to onto Option·elim
+unfolding price_text price_sheet read_sheet whose distance_to onto Option-elim
 S_refuses_00 = refl
 
 -- "Tree `010303`, R 8, D 1,008"; its total is 1,088
 pub S_prices_010303 : price_text S (1 ∷ 3 ∷ 3 ∷ []) ≡ priced 3 8 1008 1088
-unfolding price_text price_sheet read_sheet whose distance_to onto Option·elim
+unfolding price_text price_sheet read_sheet whose distance_to onto Option-elim
 S_prices_010303 = refl
 
 -- a function that meets the contract of `price`

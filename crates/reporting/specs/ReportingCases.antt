@@ -3,7 +3,7 @@
 use Rattle.std.specs.Prelude.{ℕ, ◌≤◌, ◌<◌, ◌≡◌, refl, true, List, [], ◌∷◌, length}
 use Rattle.std.proofs.Math.Path.{ap}
 use Rattle.std.proofs.Common.{subst, ◌∙◌, arith}
-use Rattle.std.proofs.Math.Option.{Option·elim}
+use Rattle.std.proofs.Math.Option.{Option-elim}
 use Rattle.hextext.specs.Written.{line_text}
 use Rattle.sheet.specs.Literal.{text_of}
 use Rattle.sheet.specs.Cases.{S, sheet_s, S_means}
@@ -38,12 +38,12 @@ refusal_lines = refl
 -- ---- S
 
 S_has_tree : has_tree sheet_s ≡ true
-unfolding has_tree least_total whose distance_to Option·elim lowest via forward onto
+unfolding has_tree least_total whose distance_to Option-elim lowest via forward onto
 S_has_tree = refl
 
 -- the tree of S
 S_first : FirstTree sheet_s (1 ∷ 3 ∷ 3 ∷ []) 8 1008
-unfolding every_list none_before price_sheet onto whose distance_to Option·elim
+unfolding every_list none_before price_sheet onto whose distance_to Option-elim
 S_first = first_computed sheet_s (1 ∷ 3 ∷ 3 ∷ []) 3 8 1008 1088 refl refl
 
 module _ (tree treeAfter work workAfter score score_after line lineAfter : List ℕ) (shown : Shown) (w : 464 ≤ length work)

@@ -7,7 +7,7 @@ use Rattle.std.proofs.Common.{sym, ◌∙◌, arith}
 use Rattle.std.proofs.lemmas.Bool.{false≢true}
 use mathlib.Core.List.{List}
 use Rattle.std.proofs.Math.Logic.{inl, inr}
-use Rattle.std.proofs.Math.Option.{Option, none, some, Option·elim, none-ne-some}
+use Rattle.std.proofs.Math.Option.{Option, none, some, Option-elim, none-ne-some}
 use Rattle.std.proofs.Math.Nat.{add-zero, mul-mod_right, mul-div_cancel_left}
 use Rattle.std.proofs.Math.Decide.{dec_le, ℕ_discrete}
 use borrow.Author.Tests.{eq-eqb, ne_eqb, lt-ltb}
@@ -88,7 +88,7 @@ module _ (s : Sheet) where
 
   -- a rule's weight
   pub weight_is : (r : ℕ) (ru : Rule) → rule_at s r ≡ some ru → weight_at s r ≡ weight_of ru
-  unfolding weight_at Option·elim
+  unfolding weight_at Option-elim
   weight_is r ru e = rw e
 
   -- ---- a leaf or a division

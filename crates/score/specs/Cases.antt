@@ -3,7 +3,7 @@
 -- line of a rest.
 use Rattle.std.specs.Prelude.{ℕ, ◌≤◌, ◌<◌, ◌≡◌, refl, cond, List, [], ◌∷◌, ◌++◌}
 use Rattle.std.proofs.Common.{ap, ◌∙◌, le-leb}
-use Rattle.std.proofs.Math.Option.{Option·elim}
+use Rattle.std.proofs.Math.Option.{Option-elim}
 use Rattle.std.proofs.lemmas.Bool.{lt-leb}
 use Rattle.hextext.specs.Written.{line_text}
 use Rattle.hextext.specs.Fields.{big_endian}
@@ -31,11 +31,11 @@ unfolding score_text head_line leaf_lines leaf_line big_endian line_text leaves_
 S_score = refl
 
 S_priced : price_sheet sheet_s tree_of_s ≡ priced 3 8 1008 1088
-unfolding price_sheet onto whose distance_to Option·elim
+unfolding price_sheet onto whose distance_to Option-elim
 S_priced = refl
 
 S_not_priced : price_sheet sheet_s (0 ∷ []) ≡ no_tree
-unfolding price_sheet onto whose distance_to Option·elim
+unfolding price_sheet onto whose distance_to Option-elim
 S_not_priced = refl
 
 -- what writing on S does, by what it does on the sheet that S means
@@ -70,6 +70,6 @@ rested = grammar_s ++ text_of "4C01000204\n4501001E8480\n4E000F42403E40\n"
 
 pub rest_written : write_text rested (1 ∷ 4 ∷ 3 ∷ []) 93
     ≡ accepted (text_of "5401000000000000005A00000000000000090000000000000000\n530000000027600400\n5300002760276001013E\n")
-unfolding write_text write_sheet read_sheet price_sheet onto distance_to Option·elim score_text head_line leaf_lines leaf_line big_endian line_text
+unfolding write_text write_sheet read_sheet price_sheet onto distance_to Option-elim score_text head_line leaf_lines leaf_line big_endian line_text
     leaves_from bars placed_from early late inside whose
 rest_written = refl

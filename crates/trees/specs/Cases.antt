@@ -2,7 +2,7 @@
 -- the trap would answer differently, and one or more for each other point of "Valid trees" and of rests. Each text is read by `read_sheet`.
 -- Here the answers are computed; `CasesHold.all_hold` says what they mean.
 use Rattle.std.specs.Prelude.{ℕ, ◌+◌, ◌≡◌, refl, Bool, true, false, not, ◌&&◌, List, [], ◌∷◌, ◌++◌, map, eqb, length, replicate}
-use Rattle.std.proofs.Math.Option.{none, some, Option·elim}
+use Rattle.std.proofs.Math.Option.{none, some, Option-elim}
 use Rattle.sheet.specs.Literal.{text_of, times}
 use Rattle.sheet.specs.Sheet.{Sheet, TimedSheet}
 use Rattle.sheet.specs.Outcome.{Outcome, refused, accepted}
@@ -215,5 +215,5 @@ cases =
 
 -- the computed answers agree with every case
 pub all_computed : map holds cases ≡ replicate (length cases) true
-unfolding holds whose distance_to Option·elim lowest via forward
+unfolding holds whose distance_to Option-elim lowest via forward
 all_computed = refl

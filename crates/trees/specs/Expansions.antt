@@ -4,7 +4,7 @@ use Rattle.std.specs.Prelude.{ℕ, ◌+◌, ◌*◌, ◌/◌, ◌%◌, ◌≤◌
 use Rattle.std.proofs.Math.Path.{refl}
 use Rattle.std.proofs.Common.{sym, ap, div-add-mod', arith}
 use Rattle.std.proofs.Math.Logic.{inl, inr}
-use Rattle.std.proofs.Math.Option.{Option, none, some, Option·elim, none-ne-some, some-injective}
+use Rattle.std.proofs.Math.Option.{Option, none, some, Option-elim, none-ne-some, some-injective}
 use borrow.Author.Tests.{eqb-true, leb-true, ltb-true, eq-eqb, le-leb}
 use Rattle.slices.specs.Test.{and_both}
 use Rattle.sheet.specs.Sheet.{Rule, division, leaf, Sheet}
@@ -48,9 +48,9 @@ cond_some : {X : Type 0} (b : Bool) (x : Option X) (y : X) → cond b x none ≡
 cond_some true x y e = (refl, e)
 cond_some false x y e = absurd (none-ne-some _ e)
 
-elim_some : {X Y : Type 0} (o : Option X) (f : X → Option Y) (y : Y) → Option·elim o none f ≡ some y
+elim_some : {X Y : Type 0} (o : Option X) (f : X → Option Y) (y : Y) → Option-elim o none f ≡ some y
     → (x : X) × (o ≡ some x) × (f x ≡ some y)
-unfolding Option·elim
+unfolding Option-elim
 elim_some none f y e = absurd (none-ne-some _ e)
 elim_some (some x) f y e = (x, refl, e)
 
@@ -87,11 +87,11 @@ module _ (s : Sheet) (g : Item) (c r : ℕ) (m : Expansion) where
 
   -- and each of them is made
   pub leaf_expands : LeafStep s g c r m → (instance_of s).expand g c r ≡ some m
-  unfolding instance_of expand_by Option·elim
+  unfolding instance_of expand_by Option-elim
   leaf_expands l =
       rw (l.rule, eq-eqb g.nonterminal g.nonterminal refl, le-leb _ _ l.few_late, eq-eqb _ _ l.kind_fits)
       (ap some (sym l.is))
 
   pub division_expands : DivisionStep s g c r m → (instance_of s).expand g c r ≡ some m
-  unfolding instance_of expand_by Option·elim
+  unfolding instance_of expand_by Option-elim
   division_expands d = rw (d.rule, eq-eqb g.nonterminal g.nonterminal refl, d.allowed) (ap some (sym d.is))

@@ -1,7 +1,7 @@
 -- Valid trees as code and search use them: the derivations of a sheet's instance. `Equivalence` shows that a list is derived at a price
 -- exactly when it is a valid tree, in the sense of `ValidTrees`, with that R and D.
 use Rattle.std.specs.Prelude.{ℕ, ◌+◌, ◌/◌, ◌≡◌, cond, List, [], eqb, leb}
-use Rattle.std.proofs.Math.Option.{Option, none, some, Option·elim}
+use Rattle.std.proofs.Math.Option.{Option, none, some, Option-elim}
 use Rattle.std.proofs.Math.ListN.{length}
 use Rattle.sheet.specs.Sheet.{Rule, division, leaf, Sheet}
 use Rattle.derivations.specs.Derivation.{Item, Expansion, Instance, derive}
@@ -54,7 +54,7 @@ instance_of s =
     record {
       count = length s.grammar.rules;
       weight = weight_at s;
-      expand = λ g c r. Option·elim (rule_at s r) none (expand_by s g c);
+      expand = λ g c r. Option-elim (rule_at s r) none (expand_by s g c);
     }
 
 -- the list is a valid tree with R and D, as the search sees it: nothing is carried in or out

@@ -2,7 +2,7 @@
 -- to its parts.
 use Rattle.std.specs.Prelude.{ℕ, suc, ◌+◌, ◌-◌, ◌*◌, ◌/◌, ◌<◌, ◌≡◌, true, List, [], ◌∷◌, ◌++◌}
 use Rattle.std.proofs.Common.{ap, subst, ◌∙◌, inl, inr, arith}
-use Rattle.std.proofs.Math.Option.{none, some, Option·elim}
+use Rattle.std.proofs.Math.Option.{none, some, Option-elim}
 use Rattle.std.proofs.Math.Nat.{div-lt_self}
 use Rattle.std.proofs.Math.ListN.{length}
 use Rattle.slices.specs.Every.{Every}
@@ -44,7 +44,7 @@ part_of g k j q = record { nonterminal = q; left = g.left + j * (g.len / k); len
 module _ (s : Sheet) where
   -- four carry states: the carry never passes 3
   pub lawful : Lawful (instance_of s) 4
-  unfolding instance_of Option·elim
+  unfolding instance_of Option-elim
   lawful = record { ends = λ g c r h. rw (past_end s.grammar.rules r h); fits = λ g c r m h e. fits g c r m h (step_of s g c r m e) }
     where
       fits : (g : Item) (c r : ℕ) (m : Expansion) → c < 4 → Step s g c r m → m.carry < 4

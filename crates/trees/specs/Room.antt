@@ -3,7 +3,7 @@
 use Rattle.std.specs.Prelude.{ℕ, suc, ◌+◌, ◌*◌, ◌/◌, ◌%◌, ◌≤◌, ◌<◌, ◌^◌, ◌≡◌, true, List, [], ◌∷◌, ◌++◌, length, replicate}
 use Rattle.std.proofs.Math.Path.{refl}
 use Rattle.std.proofs.Common.{ap, ◌∙◌, inl, inr, div-le_self, mul-le-mul, mul-le-mul_left, zero-mul}
-use Rattle.std.proofs.Math.Option.{Option, none, some, Option·elim}
+use Rattle.std.proofs.Math.Option.{Option, none, some, Option-elim}
 use Rattle.std.proofs.Math.Nat.{mul-le-mul_right}
 use native.Mathlib.Omega.{arith}
 use Rattle.std.proofs.Math.ListN.{get_elem?, length-replicate}
@@ -92,14 +92,14 @@ module _ (s : Sheet) where
             (omega (arith, k.eight, o, mul-le-mul_right (onsets_in s g.left g.len) (mul-le-mul_left 8 f)))
 
     pub weight_most : (r : ℕ) → (instance_of s).weight r ≤ 65535
-    unfolding instance_of weight_at Option·elim
+    unfolding instance_of weight_at Option-elim
     weight_most r = go (rule_at s r) refl
       where
         by : (ru : Rule) → GoodRule s.grammar.nonterminals ru → weight_of ru ≤ 65535
         by (division h w ks) k = k.weight
         by (leaf h w n) k = k.weight
 
-        go : (o : Option Rule) → rule_at s r ≡ o → Option·elim o 0 weight_of ≤ 65535
+        go : (o : Option Rule) → rule_at s r ≡ o → Option-elim o 0 weight_of ≤ 65535
         go none e = omega arith
         go (some ru) e = by ru (every_some (GoodRule s.grammar.nonterminals) s.grammar.rules r ru good.rules e)
 

@@ -5,7 +5,7 @@
 use Rattle.std.specs.Prelude.{ℕ, ◌+◌, ◌-◌, ◌*◌, ◌≤◌, ◌<◌, ◌≡◌, List}
 use Rattle.std.proofs.Math.Path.{refl, ap}
 use Rattle.std.proofs.Common.{sym, subst, ◌∙◌, add-mul, mul-le-mul_left, arith}
-use Rattle.std.proofs.Math.Option.{none, some, Option·elim}
+use Rattle.std.proofs.Math.Option.{none, some, Option-elim}
 use Rattle.std.proofs.Math.Decide.{dec_lt}
 use Rattle.std.proofs.Math.ListN.{length}
 use Rattle.sheet.specs.Sheet.{Rule, division, leaf, Sheet}
@@ -47,7 +47,7 @@ module _ (s : Sheet) where
   same_instance a = λ i. record {
     count = length s.grammar.rules;
     weight = weight_at s;
-    expand = λ g c r. Option·elim (rule_at s r) none (λ ru. same_expansion a g c ru i);
+    expand = λ g c r. Option-elim (rule_at s r) none (λ ru. same_expansion a g c ru i);
   }
 
   same_derived : (a : ℕ) (bs : List ℕ) (R D : ℕ) → Derived (with_multiplier a s) bs R D ≡ Derived s bs R D

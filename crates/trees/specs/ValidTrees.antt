@@ -2,7 +2,7 @@
 -- said with these definitions.
 -- 000 is "A Parse-based Framework for Coupled Rhythm Quantization and Score Structuring", 001 "Modeling and Learning Rhythm Structure".
 use Rattle.std.specs.Prelude.{ℕ, zero, suc, ◌+◌, ◌-◌, ◌*◌, ◌/◌, ◌%◌, ◌≤◌, ◌≡◌, Bool, true, cond, not, ◌&&◌, List, [], ◌∷◌, ◌++◌, eqb, leb, ltb, length, replicate}
-use Rattle.std.proofs.Math.Option.{Option, some, Option·elim}
+use Rattle.std.proofs.Math.Option.{Option, some, Option-elim}
 use Rattle.std.proofs.Math.ListN.{get_elem?}
 use Rattle.slices.specs.Every.{Every}
 use Rattle.sheet.specs.Sheet.{Rule, division, leaf, Onset, Sheet, bar_units}
@@ -167,7 +167,7 @@ weight_of (division h w ks) = w
 weight_of (leaf h w n) = w
 
 unfoldable pub weight_at : Sheet → ℕ → ℕ
-weight_at s r = Option·elim (rule_at s r) 0 weight_of
+weight_at s r = Option-elim (rule_at s r) 0 weight_of
 
 -- "R is the sum of the weights of all rules used" (000: the weight of a parse tree)
 unfoldable pub rule_weight : Sheet → List ℕ → ℕ
