@@ -1,2 +1,4 @@
 pub mod PlaceSteps
 pub mod ExpandSteps
+pub mod RuleCellSteps
+pub mod UnitCellSteps

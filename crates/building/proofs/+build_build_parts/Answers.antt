@@ -90,30 +90,30 @@ built c s h =
 
 pub build-least_cell-requires : goal.build-least_cell-requires
 build-least_cell-requires t c =
-    let h = c.requires.1.1 in
+    let h = c.requires.1 in
     (build_low h, h.low)
 
 pub build-overflow_cast-tree : goal.build-overflow_cast-tree
 build-overflow_cast-tree t c = omega arith
 
 pub build-bounds-tree-to : goal.build-bounds-tree-to
-build-bounds-tree-to t c = build_room c.requires.1.1
+build-bounds-tree-to t c = build_room c.requires.1
 
 pub build-split_at-split-requires : goal.build-split_at-split-requires
-build-split_at-split-requires t c = (omega arith, build_length c.requires.1.1)
+build-split_at-split-requires t c = (omega arith, build_length c.requires.1)
 
 pub build-length-requires : goal.build-length-requires
 build-length-requires t c =
-    let h = c.requires.1.1 in
-    (build_length h, (c.requires.1.0, h.entry.stands.in_bar_lem.prepared))
+    let h = c.requires.1 in
+    (build_length h, (c.requires.0, h.entry.stands.in_bar_lem.prepared))
 
 pub build-place-placed-requires : goal.build-place-placed-requires
 build-place-placed-requires t c =
-    (c.requires.1.0, build_here c.requires.1.1 c.length.result.0 c.length.ensures)
+    (c.requires.0, build_here c.requires.1 c.length.result.0 c.length.ensures)
 
 pub build-overflow_add-result : goal.build-overflow_add-result
 build-overflow_add-result t c =
-    omega (arith, build_room c.requires.1.1, c.slice_known-2-1.given c.args.to)
+    omega (arith, build_room c.requires.1, c.slice_known-2-1.given c.args.to)
 
 -- a leaf
 pub build-returns-then-k-eq0 : goal.build-returns-then-k-eq0
@@ -125,25 +125,25 @@ build-returns-then-k-eq0 t c =
 
 pub build-overflow_add-to : goal.build-overflow_add-to
 build-overflow_add-to t c =
-    omega (arith, build_room c.requires.1.1, c.slice_known-2-1.given c.args.to)
+    omega (arith, build_room c.requires.1, c.slice_known-2-1.given c.args.to)
 
 -- the parts are shorter than the interval
 pub build-build_parts-requires : goal.build-build_parts-requires
 build-build_parts-requires t c =
-    let s = c.requires.1.0 in
-    let h = c.requires.1.1 in
+    let s = c.requires.0 in
+    let h = c.requires.1 in
     let shorter =
     parts_shorter h ((c.least_cell.result % 64)) (chosen (goal.at.build-build_parts-requires t c).After-split_at-split s h) c.split_at-split.result (split (goal.at.build-build_parts-requires t c).After-split_at-split s h) c.if-k-eq0.false in
-    (omega (arith, c.requires.0, shorter), (s, entry (goal.at.build-build_parts-requires t c).Else-k-eq0 s h))
+    (omega (arith, shorter), (s, entry (goal.at.build-build_parts-requires t c).Else-k-eq0 s h))
 
 pub build-shape_of-rows : goal.build-shape_of-rows
 build-shape_of-rows t c =
-    let h = c.requires.1.1 in
+    let h = c.requires.1 in
     (built (goal.at.build-shape_of-rows t c).After-build_parts _ h).sound.size ∙ sym h.entry.sound.size
 
 pub build-shape_of-tree : goal.build-shape_of-tree
 build-shape_of-tree t c =
-    let h = c.requires.1.1 in
+    let h = c.requires.1 in
     ap length (built (goal.at.build-shape_of-tree t c).After-build_parts _ h).written ∙ length-over_from _ _ _
 
 -- a division
@@ -322,41 +322,41 @@ build-entry c s h =
 
 pub build_parts-length-len-requires : goal.build_parts-length-len-requires
 build_parts-length-len-requires t c =
-    let h = c.requires.1.1 in
-    (parts-length h.parts, (c.requires.1.0, h.parts.in_bar_lem.prepared))
+    let h = c.requires.1 in
+    (parts-length h.parts, (c.requires.0, h.parts.in_bar_lem.prepared))
 
 pub build_parts-loop-j-init : goal.build_parts-loop-j-init
 build_parts-loop-j-init t c = (omega arith, omega arith, λ s h. in_parts_none h)
 
 pub build_parts-child-q-requires : goal.build_parts-child-q-requires
 build_parts-child-q-requires t c =
-    let h = c.requires.1.1 in
+    let h = c.requires.1 in
     (rule_below h.parts, omega (arith, c.loop-j-test.true, parts_eight h.parts))
 
 pub build_parts-overflow_add-j : goal.build_parts-overflow_add-j
-build_parts-overflow_add-j t c = omega (arith, c.loop-j-test.true, parts_eight c.requires.1.1.parts)
+build_parts-overflow_add-j t c = omega (arith, c.loop-j-test.true, parts_eight c.requires.1.parts)
 
 pub build_parts-overflow_add-end : goal.build_parts-overflow_add-end
-build_parts-overflow_add-end t c = omega (arith, near (goal.at.build_parts-overflow_add-end t c).After-child-q _ c.requires.1.1)
+build_parts-overflow_add-end t c = omega (arith, near (goal.at.build_parts-overflow_add-end t c).After-child-q _ c.requires.1)
 
 pub build_parts-first_behind-then-requires : goal.build_parts-first_behind-then-requires
 build_parts-first_behind-then-requires t c =
-    let s = c.requires.1.0 in
-    let h = c.requires.1.1 in
+    let s = c.requires.0 in
+    let h = c.requires.1 in
     (s, c.loop-j.lo, h.parts.in_bar_lem.onsets, (c.loop-j.invariant.2 s h).first, omega arith, omega (arith, near (goal.at.build_parts-first_behind-then-requires t c).After-child-q s h))
 
 pub build_parts-cells-y-requires : goal.build_parts-cells-y-requires
 build_parts-cells-y-requires t c =
-    (c.requires.1.0, entry (goal.at.build_parts-cells-y-requires t c).After-child-q _ c.requires.1.1)
+    (c.requires.0, entry (goal.at.build_parts-cells-y-requires t c).After-child-q _ c.requires.1)
 
 pub build_parts-suffix_costs-w-requires : goal.build_parts-suffix_costs-w-requires
 build_parts-suffix_costs-w-requires t c =
-    (c.requires.1.0, suffix-costs-entry (goal.at.build_parts-suffix_costs-w-requires t c).After-totals-x _ c.requires.1.1)
+    (c.requires.0, suffix-costs-entry (goal.at.build_parts-suffix_costs-w-requires t c).After-totals-x _ c.requires.1)
 
 -- a part's measure is one less
 pub build_parts-build-b-requires : goal.build_parts-build-b-requires
 build_parts-build-b-requires t c =
-    (omega (arith, c.requires.0), (c.requires.1.0, build-entry (goal.at.build_parts-build-b-requires t c).After-suffix_costs-w _ c.requires.1.1))
+    (omega arith, (c.requires.0, build-entry (goal.at.build_parts-build-b-requires t c).After-suffix_costs-w _ c.requires.1))
 
 -- one part more is built
 pub build_parts-loop-j-preserved : goal.build_parts-loop-j-preserved
@@ -372,12 +372,12 @@ build_parts-loop-j-preserved t c =
 
 pub build_parts-shape_of-rows : goal.build_parts-shape_of-rows
 build_parts-shape_of-rows t c =
-    let h = c.requires.1.1 in
+    let h = c.requires.1 in
     (c.loop-j.invariant.2 _ h).sound.size ∙ sym h.parts.sound.size
 
 pub build_parts-shape_of-tree : goal.build_parts-shape_of-tree
 build_parts-shape_of-tree t c =
-    let h = c.requires.1.1 in
+    let h = c.requires.1 in
     ap length (c.loop-j.invariant.2 _ h).partway.written ∙ length-over_from _ _ _
 
 pub build_parts-returns : goal.build_parts-returns

@@ -1,10 +1,17 @@
 use Prim.Native.Nat.{ℕ, ◌+◌, ◌-◌, ◌*◌, ◌≤◌}
 use mathlib.Core.Path.{◌≡◌}
+use Rattle.plan.specs.Plan.{length_cell}
 use Rattle.sheet.specs.Sheet.{Sheet}
 use Rattle.building.specs.Clauses.{at, PartsBuildPre}
 use Rattle.sheet.specs.Held.{units as units_of}
 use Rattle.building.proofs.PartSteps.{InParts}
 use Rattle.building.proofs.+build_build_parts.Given as goal
+
+abbrev pub decreases-build : goal.decreases-build
+decreases-build l = 2 * length_cell l.plan.now l.l
+
+abbrev pub decreases-build_parts : goal.decreases-build_parts
+decreases-build_parts l = 2 * length_cell l.plan.now l.l + 1
 
 abbrev pub invariant-build_parts-loop-j : goal.invariant-build_parts-loop-j
 invariant-build_parts-loop-j l =
@@ -14,9 +21,3 @@ invariant-build_parts-loop-j l =
 
 abbrev pub decreases-build_parts-loop-j : goal.decreases-build_parts-loop-j
 decreases-build_parts-loop-j l = l.k - l.j
-
--- abbrev pub μ-build : Measures 3 build-kinds.ps ℕ
--- μ-build κs a = 2 * length_cell a.0.now a.1.1.1.1.1.1.0
-
--- abbrev pub μ-build-parts : Measures 3 build-parts-kinds.ps ℕ
--- μ-build-parts κs a = 2 * length_cell a.0.now a.1.1.1.1.1.1.1.0 + 1

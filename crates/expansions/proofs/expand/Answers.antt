@@ -19,12 +19,11 @@ pub returns-then-head-nonterminal : goal.returns-then-head-nonterminal
 returns-then-head-nonterminal c =
     let if1 = c.if-i-ge-RULES_MOST in
     let rule_at_lem = c.rule_at-rule in
-    let rule = c.rule-1 in
     let if2 = c.if-head-nonterminal in
     λ s h. leaf_other s _ _ _ _ _ _ _ (leaf_rule (rule_at s c.args.r) _ _ _ (sym (h.rules.rules _ (omega (
       arith,
       if1.false,
-    ))) ∙ sym rule_at_lem.ensures ∙ rule.given.1)) if2.true
+    ))) ∙ sym rule_at_lem.ensures ∙ c.in-Leaf.is)) if2.true
 
 pub leaf_at-requires : goal.leaf_at-requires
 leaf_at-requires c =
@@ -34,9 +33,8 @@ pub returns-then-head-nonterminal-2 : goal.returns-then-head-nonterminal-2
 returns-then-head-nonterminal-2 c =
     let if1 = c.if-i-ge-RULES_MOST in
     let rule_at_lem = c.rule_at-rule in
-    let rule2 = c.rule-in-Division-1 in
     let if3 = c.if-head-nonterminal-2 in
-    λ s h. division_not s _ _ _ _ _ _ _ (sym (h.rules.rules _ (omega (arith, if1.false))) ∙ sym rule_at_lem.ensures ∙ rule2.given.1)
+    λ s h. division_not s _ _ _ _ _ _ _ (sym (h.rules.rules _ (omega (arith, if1.false))) ∙ sym rule_at_lem.ensures ∙ c.in-Division.is)
     if3.true
 
 pub division_at-requires : goal.division_at-requires
@@ -47,21 +45,19 @@ pub returns-else-head-nonterminal : goal.returns-else-head-nonterminal
 returns-else-head-nonterminal c =
     let if1 = c.if-i-ge-RULES_MOST in
     let rule_at_lem = c.rule_at-rule in
-    let rule = c.rule-1 in
     let if2 = c.if-head-nonterminal in
     let leaf_at_lem = c.leaf_at in
     λ s h. let a = c.args in
     leaf_as s a.nonterminal a.over a.carried a.r _ _ _ leaf_at_lem.result (leaf_rule (rule_at s c.args.r) _ _ _ (sym
-    (h.rules.rules _ (omega (arith, if1.false))) ∙ sym rule_at_lem.ensures ∙ rule.given.1)) if2.false (leaf_at_lem.ensures s
+    (h.rules.rules _ (omega (arith, if1.false))) ∙ sym rule_at_lem.ensures ∙ c.in-Leaf.is)) if2.false (leaf_at_lem.ensures s
     h.entered)
 
 pub returns-else-head-nonterminal-2 : goal.returns-else-head-nonterminal-2
 returns-else-head-nonterminal-2 c =
     let if1 = c.if-i-ge-RULES_MOST in
     let rule_at_lem = c.rule_at-rule in
-    let rule2 = c.rule-in-Division-1 in
     let division_at = c.division_at in
     let if3 = c.if-head-nonterminal-2 in
     λ s h. let a = c.args in
     division_as s a.nonterminal a.over a.carried a.r h.rules.good _ _ _ division_at.result (sym (h.rules.rules _
-    (omega (arith, if1.false))) ∙ sym rule_at_lem.ensures ∙ rule2.given.1) if3.false (division_at.ensures s h.entered.here)
+    (omega (arith, if1.false))) ∙ sym rule_at_lem.ensures ∙ c.in-Division.is) if3.false (division_at.ensures s h.entered.here)

@@ -14,16 +14,14 @@ overflow_mul-result-in-Leaf c =
 
 pub returns-in-Division : goal.returns-in-Division
 returns-in-Division c =
-    let unpacked = c.unpacked-rule in
-    let rule = c.rule-1 in (
-      cost_most c.requires.1.0 _ c.requires.1.1 rule.given.0.1.0 (search rules),
-      λ s p. division_cost s _ c.args.r _ c.requires.0 unpacked.ensures p _ _ _ rule.given.1,
+    let unpacked = c.unpacked-rule in (
+      cost_most c.requires.1.0 _ c.requires.1.1 c.in-Division.weight (search rules),
+      λ s p. division_cost s _ c.args.r _ c.requires.0 unpacked.ensures p _ _ _ c.in-Division.is,
     )
 
 pub returns-in-Leaf : goal.returns-in-Leaf
 returns-in-Leaf c =
-    let unpacked = c.unpacked-rule in
-    let rule = c.rule-in-Leaf-1 in (
-      cost_most c.requires.1.0 _ c.requires.1.1 rule.given.0.1.0 (search rules),
-      λ s p. leaf_cost_lem s _ c.args.r _ c.requires.0 unpacked.ensures p _ _ _ rule.given.1,
+    let unpacked = c.unpacked-rule in (
+      cost_most c.requires.1.0 _ c.requires.1.1 c.in-Leaf.weight (search rules),
+      λ s p. leaf_cost_lem s _ c.args.r _ c.requires.0 unpacked.ensures p _ _ _ c.in-Leaf.is,
     )

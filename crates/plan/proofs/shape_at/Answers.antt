@@ -5,11 +5,9 @@ use Rattle.plan.proofs.shape_at.Goals as goal
 pub returns-in-Division : goal.returns-in-Division
 returns-in-Division c =
     let unpacked = c.unpacked-rule in
-    let rule = c.rule-1 in
-    λ s p. division_shape s _ c.args.r _ c.requires unpacked.ensures p _ _ _ rule.given.1
+    λ s p. division_shape s _ c.args.r _ c.requires unpacked.ensures p _ _ _ c.in-Division.is
 
 pub returns-in-Leaf : goal.returns-in-Leaf
 returns-in-Leaf c =
     let unpacked = c.unpacked-rule in
-    let rule = c.enum_told-1 in
-    λ s p. leaf_shape s _ c.args.r _ c.requires unpacked.ensures p _ _ _ rule.given.1
+    λ s p. leaf_shape s _ c.args.r _ c.requires unpacked.ensures p _ _ _ c.in-Leaf.is

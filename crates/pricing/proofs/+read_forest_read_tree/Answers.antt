@@ -24,14 +24,14 @@ read_forest-loop-j-init t c = (omega arith, omega arith, λ s h. row_none h)
 pub read_forest-read_tree-w-requires : goal.read_forest-read_tree-w-requires
 read_forest-read_tree-w-requires t c =
     let l = c.loop-j in
-    let h = c.requires.1.1 in
+    let h = c.requires.1 in
     let item = row_item h l.j l.left l.next (l.invariant.2 _ h) c.loop-j-test.true l.invariant.0 in
-    (omega (arith, c.requires.0), (c.requires.1.0, item))
+    (omega arith, (c.requires.0, item))
 
 pub read_forest-overflow_add-left : goal.read_forest-overflow_add-left
 read_forest-overflow_add-left t c =
     let l = c.loop-j in
-    let h = c.requires.1.1 in
+    let h = c.requires.1 in
     let near = next_within h l.j l.left l.next (l.invariant.2 _ h) c.loop-j-test.true l.invariant.0 in
     record { fits = omega arith }
 
@@ -86,7 +86,7 @@ leaf-fits c =
     c.in-Leaf.distance =
     λ s h. leaf_told h c.args.nonterminal (some_rule-here) c.expand-x.result c.in-Leaf.is
     (c.expand-x.ensures s) in
-    let h = c.requires.1.1 in
+    let h = c.requires.1 in
     leaf_room h c.args.nonterminal (some_rule-here) (leaf_made-here _ h)
 
 -- it is a division rule, which stands in the table and has two to eight parts
@@ -110,7 +110,7 @@ division-fits c =
     DivisionMade s (item_of a.nonterminal a.over) a.p.carried (get_or a.list.now a.p.at 0) c.in-Division.weight c.in-Division.arity =
     λ s h. division_told h c.args.nonterminal (some_rule-here) c.expand-x.result
     c.in-Division.is (c.expand-x.ensures s) in
-    let h = c.requires.1.1 in
+    let h = c.requires.1 in
     let f = arity_small h c.args.nonterminal (some_rule-here) (division_made-here _ h) in
     (f.0, f.1, f.2, children_length h)
 
@@ -121,7 +121,7 @@ read_tree-returns-then-list-at t c =
 
 pub read_tree-expand-x-requires : goal.read_tree-expand-x-requires
 read_tree-expand-x-requires t c =
-    (c.requires.1.0, item_at_lem c.requires.1.1)
+    (c.requires.0, item_at_lem c.requires.1)
 
 pub read_tree-overflow_add-early : goal.read_tree-overflow_add-early
 read_tree-overflow_add-early t c =
@@ -165,7 +165,7 @@ read_tree-slice_bounds-kids-end t c =
 
 pub read_tree-behind-next-requires : goal.read_tree-behind-next-requires
 read_tree-behind-next-requires t c =
-    let h = c.requires.1.1 in
+    let h = c.requires.1 in
     rule_room h c.args.nonterminal (some_rule (goal.at.read_tree-behind-next-requires t c).After-expand-x) (division_made (goal.at.read_tree-behind-next-requires t c).In-Division _ h)
 
 -- the parts are shorter than the interval
@@ -173,10 +173,10 @@ pub read_tree-read_forest-requires : goal.read_tree-read_forest-requires
 read_tree-read_forest-requires t c =
     let k = some_rule (goal.at.read_tree-read_forest-requires t c).After-expand-x in
     let q = c.args.nonterminal in
-    let h = c.requires.1.1 in
+    let h = c.requires.1 in
     let made = division_made (goal.at.read_tree-read_forest-requires t c).In-Division _ h in (
-      omega (arith, c.requires.0, (parts_fall h q k made).0),
-      (c.requires.1.0, parts_entry h q k made _ _ (kids_are h q k made) c.behind-next.ensures),
+      omega (arith, (parts_fall h q k made).0),
+      (c.requires.0, parts_entry h q k made _ _ (kids_are h q k made) c.behind-next.ensures),
     )
 
 -- the rule is refused

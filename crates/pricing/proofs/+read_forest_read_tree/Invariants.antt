@@ -8,11 +8,11 @@ use Rattle.pricing.specs.Clauses.{ForestPre}
 use Rattle.pricing.proofs.ForestSteps.{InRow}
 use Rattle.pricing.proofs.+read_forest_read_tree.Given as goal
 
--- abbrev pub μ-read-forest : Measures 1 read-forest-kinds.ps ℕ
--- μ-read-forest κs a = 2 * a.1.1.1.1.1.0.len.0 + 1
+abbrev pub decreases-read_forest : goal.decreases-read_forest
+decreases-read_forest l = 2 * l.first.len.0 + 1
 
--- abbrev pub μ-read-tree : Measures 1 read-tree-kinds.ps ℕ
--- μ-read-tree κs a = 2 * a.1.1.1.1.1.0.len.0
+abbrev pub decreases-read_tree : goal.decreases-read_tree
+decreases-read_tree l = 2 * l.over.len.0
 
 abbrev pub invariant-read_forest-loop-j : goal.invariant-read_forest-loop-j
 invariant-read_forest-loop-j l =

@@ -1,47 +1,14 @@
 use borrow.Author.Rules.{rules}
-use borrow.Author.Count.{below_more}
-use mathlib.Core.Path.{◌≡◌, refl, ap, ◌∙◌}
-use mathlib.Core.List.{List, map}
-use Prim.Native.Nat.{ℕ, ◌+◌, ◌≤◌, ◌<◌}
+use mathlib.Core.Path.{refl}
 use native.Mathlib.Omega.{arith}
-use lib.ListN.{length, get_or, set, length-set}
-use lib.Seq.{get_or-set_same, get_or-set_other}
-use Rattle.slices.specs.Pad.{get_or-pad}
-use Rattle.sheet.specs.Sheet.{Grammar}
-use Rattle.sheet.specs.Held.{rule_cell, no_rule, grammar_table}
-use Rattle.sheet.specs.declared.table.GrammarTable.{GrammarTable}
-use Rattle.expansions.specs.Tables.{unpacked_of, PackedRules}
-use Rattle.expansions.specs.RuleCells.{cell_in_lem}
+use Rattle.expansions.proofs.RuleCellSteps.{cells_more, cells_all}
 use Rattle.expansions.proofs.packed.pack_rules.Goals as goal
-
--- the first i cells hold the rules of the table
-record Cells (g : GrammarTable) (out : List ℕ) (i : ℕ) : Type 0 where
-  pub size : length out ≡ 64
-  pub each : (m : ℕ) → m < i → unpacked_of (get_or out m 0) ≡ (get_or g.rules m no_rule).rule
-
-next : {g : GrammarTable} {out : List ℕ} {i : ℕ} (v : ℕ) → Cells g out i → i < 64 → unpacked_of v ≡ (get_or g.rules i no_rule).rule
-    → Cells g (set out i v) (i + 1)
-next {g} {out} {i} v h l e =
-    let k : i < length out = omega (arith, h.size) in
-    record {
-      size = length-set out i v ∙ h.size;
-      each =
-          below_more _ _ (λ m n. ap unpacked_of (get_or-set_other out i m v 0 (λ s. omega arith)) ∙ h.each m n)
-          (ap unpacked_of (get_or-set_same out i v 0 k) ∙ e);
-    }
-
--- the cells of a grammar's table
-all : {g : GrammarTable} {out : List ℕ} {i : ℕ} → Cells g out i → 64 ≤ i → (h : Grammar) → g ≡ grammar_table h → PackedRules h out
-unfolding grammar_table
-all {g} t l h e m n =
-    t.each m (omega arith) ∙ ap (λ (x : GrammarTable). (get_or x.rules m no_rule).rule) e
-    ∙ ap (λ c. c.rule) (get_or-pad 64 no_rule (map rule_cell h.rules) m n) ∙ cell_in_lem h.rules m
 
 pub loop-i-init : goal.loop-i-init
 loop-i-init c = (search rules, record { size = refl; each = λ m l. absurd (omega arith) })
 
 pub loop-i-preserved : goal.loop-i-preserved
-loop-i-preserved c = (search rules, next _ c.loop-i.invariant.1 (search rules) c.packed.ensures)
+loop-i-preserved c = (search rules, cells_more _ c.loop-i.invariant.1 (search rules) c.packed.ensures)
 
 pub returns : goal.returns
-returns c = all c.loop-i.invariant.1 (omega arith)
+returns c = cells_all c.loop-i.invariant.1 (omega arith)

@@ -1,6 +1,7 @@
 -- `pack_rules` meets its contract. The loop's invariant: the first `i` cells hold the first `i` rules of the table. The measure is the
 -- number of cells left. Assumes nothing.
 use Prim.Native.Nat.{◌-◌, ◌≤◌}
+use Rattle.expansions.proofs.RuleCellSteps.{Cells}
 use Rattle.expansions.proofs.packed.pack_rules.Given as goal
 
 abbrev pub invariant-loop-i : goal.invariant-loop-i

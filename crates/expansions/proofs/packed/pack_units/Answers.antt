@@ -1,55 +1,15 @@
-use mathlib.Core.List.{[]}
 use borrow.Author.Rules.{rules}
-use mathlib.Core.Path.{◌≡◌, ap, ◌∙◌}
-use mathlib.Core.List.{List, map}
-use Prim.Native.Nat.{ℕ, ◌+◌, ◌≤◌, ◌<◌}
 use native.Mathlib.Omega.{arith}
-use native.Mathlib.Numerals.{add-one}
-use lib.ListN.{length, get_or, set, take, get_or-map}
-use lib.Seq.{take-suc, take_all, length-take-le}
-use Rattle.slices.specs.Pad.{pad, pad_nil, pad_map_more, get_or-pad}
-use Rattle.sheet.specs.declared.table.PlayingTable.{PlayingTable}
-use Rattle.sheet.specs.declared.clock.Units.{Units}
-use Rattle.sheet.specs.Sheet.{Onset, Playing}
-use Rattle.sheet.specs.Good.{GoodOnsets}
-use Rattle.sheet.specs.Held.{units, units_of, playing_table}
-use Rattle.expansions.specs.Tables.{last_unit, unit_in, unit_cells}
+use Rattle.slices.specs.Pad.{pad_nil}
+use Rattle.expansions.specs.Tables.{last_unit}
+use Rattle.expansions.proofs.UnitCellSteps.{units_none, units_more, units_all}
 use Rattle.expansions.proofs.packed.pack_units.Goals as goal
 
-abbrev none : Onset
-none = record { unit = 0; pitch = 0 }
-
--- the cells after i units
-abbrev UnitsOf : PlayingTable → List ℕ → ℕ → Type 0
-UnitsOf p out i = (q : Playing) → GoodOnsets q → p ≡ playing_table q → out ≡ pad 513 last_unit (map unit_in (take i q.onsets))
-
-units-none : (p : PlayingTable) (out : List ℕ) → out ≡ pad 513 last_unit [] → UnitsOf p out 0
-units-none p out e q g h = e
-
-units-more : (p : PlayingTable) (out : List ℕ) (i : ℕ) → UnitsOf p out i → i < p.count
-    → UnitsOf p (set out i (get_or p.units i (units 0)).0) (i + 1)
-unfolding playing_table
-units-more p out i t h q g e =
-    let os = q.onsets in
-    let k : i < length os = omega (arith, ap (λ (x : PlayingTable). x.count) e) in
-    let u : (get_or p.units i (units 0)).0 ≡ unit_in (get_or os i none) =
-    ap (λ (x : PlayingTable). (get_or x.units i (units 0)).0) e
-    ∙ ap (λ (x : Units). x.0) (get_or-pad 512 (units 0) (map units_of os) i (omega (arith, g.most)) ∙ get_or-map units_of os i none) in
-    rw (u, add-one, take-suc os i none k)
-    (pad_map_more 513 last_unit unit_in (take i os) (get_or os i none) out i (t q g e) (length-take-le i os (omega arith))
-    (omega (arith, g.most)))
-
-units-all : (p : PlayingTable) (out : List ℕ) (i : ℕ) → UnitsOf p out i → p.count ≤ i → (q : Playing) → GoodOnsets q → p ≡ playing_table q
-    → out ≡ unit_cells q
-unfolding playing_table unit_cells
-units-all p out i t h q g e =
-    t q g e ∙ ap (λ xs. pad 513 last_unit (map unit_in xs)) (take_all i q.onsets (omega (arith, ap (λ (x : PlayingTable). x.count) e)))
-
 pub loop-i-init : goal.loop-i-init
-loop-i-init c = (search rules, units-none _ _ (pad_nil 513 last_unit))
+loop-i-init c = (search rules, units_none _ _ (pad_nil 513 last_unit))
 
 pub loop-i-preserved : goal.loop-i-preserved
-loop-i-preserved c = (search rules, units-more _ _ _ c.loop-i.invariant.1 (search rules))
+loop-i-preserved c = (search rules, units_more _ _ _ c.loop-i.invariant.1 (search rules))
 
 pub returns : goal.returns
-returns c = units-all _ _ c.loop-i.i c.loop-i.invariant.1 (omega arith)
+returns c = units_all _ _ c.loop-i.i c.loop-i.invariant.1 (omega arith)

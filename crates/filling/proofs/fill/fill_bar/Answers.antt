@@ -1,12 +1,11 @@
 use Rattle.std.proofs.Common.{◌≡◌, sym, refl, ◌∙◌, arith}
-use borrow.Author.Tests.{not-false}
 use Rattle.filling.specs.Order.{worth_in}
 use Rattle.filling.specs.OnsetLaws.{bar_number, bar_begin, bar_place, bar_next, bar_asked, bar_more}
 use Rattle.filling.proofs.fill.fill_bar.Goals.{Else-not-is_worth}
 use Rattle.filling.proofs.fill.fill_bar.Goals as goal
 
 worth : (c : Else-not-is_worth) → worth_in c.args.order.now ≡ 1
-worth c = c.is_worth.ensures (not-false _ c.if-not-is_worth.false)
+worth c = c.is_worth.ensures c.if-not-is_worth.false
 
 pub returns-then-not-is_worth : goal.returns-then-not-is_worth
 returns-then-not-is_worth c = λ s e. e.sound

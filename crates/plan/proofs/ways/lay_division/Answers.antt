@@ -26,7 +26,7 @@ whole c =
     rest_least told.children.now told.leaves.now told.cost told.r told.k c.loop-j.j (c.placed_cost-own.result) ((c.args.cost + c.rest_sum.result))
     c.loop-j-test.true c.placed_cost-own.ensures.1
     (ap (told.cost +◌) c.rest_sum.ensures.1) in
-    omega (arith, least-here c.rest_sum.ensures.1)
+    omega (arith, least-here, c.rest_sum.ensures.1)
 
 pub rest_sum-requires : goal.rest_sum-requires
 rest_sum-requires c = let pre = c.requires in (pre.2, pre.3, pre.4, pre.5)

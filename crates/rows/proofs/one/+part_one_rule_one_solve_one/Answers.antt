@@ -15,17 +15,17 @@ use Rattle.rows.proofs.one.+part_one_rule_one_solve_one.Goals as goal
 
 pub part_one-place_of-at-requires : goal.part_one-place_of-at-requires
 part_one-place_of-at-requires t c =
-    (c.requires.1.0, part_slot c.requires.1.1)
+    (c.requires.0, part_slot c.requires.1)
 
 pub part_one-held-requires : goal.part_one-held-requires
 part_one-held-requires t c =
-    let h = c.requires.1.1 in
+    let h = c.requires.1 in
     let e = part_solve h c.place_of-at.ensures in
     (solve_room e.entry h.sound, stands_bar h.stands)
 
 pub part_one-load-y-requires : goal.part_one-load-y-requires
 part_one-load-y-requires t c =
-    let h = c.requires.1.1 in
+    let h = c.requires.1 in
     let e = part_solve h c.place_of-at.ensures in
     solve_room e.entry h.sound
 
@@ -40,9 +40,9 @@ part_one-returns-then-held t c =
 
 pub part_one-solve_one-requires : goal.part_one-solve_one-requires
 part_one-solve_one-requires t c =
-    let h = c.requires.1.1 in
+    let h = c.requires.1 in
     let e = part_solve h c.place_of-at.ensures in
-    (omega (arith, c.requires.0), (c.requires.1.0, e))
+    (omega arith, (c.requires.0, e))
 
 pub part_one-returns : goal.part_one-returns
 part_one-returns t c =
@@ -54,35 +54,35 @@ part_one-returns t c =
 
 pub rule_one-length-len-requires : goal.rule_one-length-len-requires
 rule_one-length-len-requires t c =
-    let e = c.requires.1.1 in
-    (rule_length e, (c.requires.1.0, e.stands.in_bar_lem.prepared))
+    let e = c.requires.1 in
+    (rule_length e, (c.requires.0, e.stands.in_bar_lem.prepared))
 
 pub rule_one-nonzero_div-i : goal.rule_one-nonzero_div-i
 rule_one-nonzero_div-i t c =
-    let e = c.requires.1.1 in
+    let e = c.requires.1 in
     let length = c.length-len in
     omega (arith, rule_positive e length.ensures refl)
 
 pub rule_one-overflow_cast-part : goal.rule_one-overflow_cast-part
 rule_one-overflow_cast-part t c =
-    let e = c.requires.1.1 in
+    let e = c.requires.1 in
     omega (arith, (rule_child e c.length-len.ensures refl).1)
 
 pub rule_one-child-q-requires : goal.rule_one-child-q-requires
 rule_one-child-q-requires t c =
-    let e = c.requires.1.1 in
+    let e = c.requires.1 in
     let length = c.length-len in
     rule_child e length.ensures refl
 
 pub rule_one-overflow_mul-lo : goal.rule_one-overflow_mul-lo
 rule_one-overflow_mul-lo t c =
-    let e = c.requires.1.1 in
+    let e = c.requires.1 in
     let length = c.length-len in
     omega (arith, rule_near e length.ensures refl)
 
 pub rule_one-overflow_add-lo : goal.rule_one-overflow_add-lo
 rule_one-overflow_add-lo t c =
-    let e = c.requires.1.1 in
+    let e = c.requires.1 in
     let length = c.length-len in
     omega (arith, rule_near e length.ensures refl)
 
@@ -90,18 +90,18 @@ pub rule_one-part_one-y-requires : goal.rule_one-part_one-y-requires
 rule_one-part_one-y-requires t c =
     let length = c.length-len in
     let child = c.child-q in
-    let e = c.requires.1.1 in
+    let e = c.requires.1 in
     let part = rule_part e length.ensures refl child.ensures in
-    (omega (arith, c.requires.0), (c.requires.1.0, part))
+    (omega arith, (c.requires.0, part))
 
 pub rule_one-by_way-x-requires : goal.rule_one-by_way-x-requires
 rule_one-by_way-x-requires t c =
     let length = c.length-len in
     let child = c.child-q in
     let part-one = c.part_one-y in
-    let e = c.requires.1.1 in
+    let e = c.requires.1 in
     let row = part-one.ensures _ (rule_part e length.ensures refl child.ensures) in
-    (c.requires.1.0, rule_way e length.ensures refl child.ensures row)
+    (c.requires.0, rule_way e length.ensures refl child.ensures row)
 
 pub rule_one-returns : goal.rule_one-returns
 rule_one-returns t c =
@@ -119,28 +119,28 @@ rule_one-returns t c =
 
 pub solve_one-length-len-requires : goal.solve_one-length-len-requires
 solve_one-length-len-requires t c =
-    let t = c.requires.1.1.entry.entry.stands in
-    (stands-length t, (c.requires.1.0, t.in_bar_lem.prepared))
+    let t = c.requires.1.entry.entry.stands in
+    (stands-length t, (c.requires.0, t.in_bar_lem.prepared))
 
 pub solve_one-offset_bounds-units-from : goal.solve_one-offset_bounds-units-from
-solve_one-offset_bounds-units-from t c = omega (arith, one_place c.requires.1.1)
+solve_one-offset_bounds-units-from t c = omega (arith, one_place c.requires.1)
 
 pub solve_one-bounds-units-from : goal.solve_one-bounds-units-from
-solve_one-bounds-units-from t c = omega (arith, one_place c.requires.1.1)
+solve_one-bounds-units-from t c = omega (arith, one_place c.requires.1)
 
 pub solve_one-overflow_sub-d : goal.solve_one-overflow_sub-d
-solve_one-overflow_sub-d t c = omega (arith, one_behind c.requires.1.1)
+solve_one-overflow_sub-d t c = omega (arith, one_behind c.requires.1)
 
 pub solve_one-last_division-last-requires : goal.solve_one-last_division-last-requires
-solve_one-last_division-last-requires t c = stands_head c.requires.1.1.entry.entry.stands
+solve_one-last_division-last-requires t c = stands_head c.requires.1.entry.entry.stands
 
 pub solve_one-leaf_one-leaf-requires : goal.solve_one-leaf_one-leaf-requires
 solve_one-leaf_one-leaf-requires t c =
     let length = c.length-len in
-    leaf_one_asked c.requires.1.1 length.ensures refl
+    leaf_one_asked c.requires.1 length.ensures refl
 
 pub solve_one-first_division-n-requires : goal.solve_one-first_division-n-requires
-solve_one-first_division-n-requires t c = stands_head c.requires.1.1.entry.entry.stands
+solve_one-first_division-n-requires t c = stands_head c.requires.1.entry.entry.stands
 
 pub solve_one-loop-n-init : goal.solve_one-loop-n-init
 solve_one-loop-n-init t c =
@@ -151,12 +151,12 @@ solve_one-loop-n-init t c =
 
 pub solve_one-rule_at_place-rule-requires : goal.solve_one-rule_at_place-rule-requires
 solve_one-rule_at_place-rule-requires t c =
-    let e = c.requires.1.1 in
+    let e = c.requires.1 in
     place_in e.entry (c.loop-n.invariant _ e) c.last_division-last.ensures c.loop-n-test.true
 
 pub solve_one-split_at_place-split-requires : goal.solve_one-split_at_place-split-requires
 solve_one-split_at_place-split-requires t c =
-    let e = c.requires.1.1 in
+    let e = c.requires.1 in
     let less = c.loop-n-test.true in (
       place_in e.entry (c.loop-n.invariant _ e) c.last_division-last.ensures less,
       stands-length e.entry.entry.stands,
@@ -164,12 +164,12 @@ solve_one-split_at_place-split-requires t c =
 
 pub solve_one-overflow_add-n : goal.solve_one-overflow_add-n
 solve_one-overflow_add-n t c =
-    let e = c.requires.1.1 in
+    let e = c.requires.1 in
     omega (arith, c.loop-n-test.true, last_in e.entry c.last_division-last.ensures)
 
 pub solve_one-rule_one-y-requires : goal.solve_one-rule_one-y-requires
 solve_one-rule_one-y-requires t c =
-    let e = c.requires.1.1 in
+    let e = c.requires.1 in
     let t = e.entry.entry.stands in
     let done = c.loop-n.invariant _ e in
     let k = c.last_division-last.ensures in
@@ -178,7 +178,7 @@ solve_one-rule_one-y-requires t c =
     let split = c.split_at_place-split.ensures.1 _ _ t.in_bar_lem.prepared (division_at e.entry done k less) t.length_in in
     let d = (split_told e.entry done k less is split).divides c.if-k-ne0.true in
     let asked = rule_asked e c.length-len.ensures refl d (rules_here e.entry done k less is) in
-    (omega (arith, c.requires.0, parts_shorter e.entry d), (c.requires.1.0, asked))
+    (omega (arith, parts_shorter e.entry d), (c.requires.0, asked))
 
 pub solve_one-loop-n-preserved-then-k-ne0 : goal.solve_one-loop-n-preserved-then-k-ne0
 solve_one-loop-n-preserved-then-k-ne0 t c =
@@ -208,17 +208,17 @@ solve_one-loop-n-preserved t c =
 
 pub solve_one-overflow_add-bar : goal.solve_one-overflow_add-bar
 solve_one-overflow_add-bar t c =
-    omega (arith, stands_bar c.requires.1.1.entry.entry.stands)
+    omega (arith, stands_bar c.requires.1.entry.entry.stands)
 
 pub solve_one-store-requires : goal.solve_one-store-requires
 solve_one-store-requires t c =
-    let e = c.requires.1.1 in
+    let e = c.requires.1 in
     let p = (c.loop-n.invariant _ e).ruled in
     (solve_room e.entry p.sound, omega (arith, stands_bar e.entry.entry.stands), ruled_low p)
 
 pub solve_one-shape_of-rows : goal.solve_one-shape_of-rows
 solve_one-shape_of-rows t c =
-    let e = c.requires.1.1 in
+    let e = c.requires.1 in
     let row = rules_end e.entry (c.loop-n.invariant _ e) c.last_division-last.ensures c.loop-n-test.false in
     (solve_stored e.entry row c.store.ensures).sound.size ∙ sym e.entry.entry.sound.size
 

@@ -1,17 +1,19 @@
+use Prim.Native.Nat.{◌+◌, ◌*◌}
 use Prim.Native.Nat.{ℕ, ◌-◌}
+use Rattle.plan.specs.Plan.{length_cell}
 use Rattle.sheet.specs.Sheet.{Sheet}
 use Rattle.rows.specs.SolveLaws.{Done}
 use Rattle.rows.specs.One.{pair_row, OneEntry}
 use Rattle.rows.proofs.one.+part_one_rule_one_solve_one.Given as goal
 
--- abbrev pub μ-part-one : Measures 2 part-one-kinds.ps ℕ
--- μ-part-one κs a = 3 * length_cell a.0.now a.1.1.1.1.1.0 + 1
+abbrev pub decreases-part_one : goal.decreases-part_one
+decreases-part_one l = 3 * length_cell l.plan.now l.l + 1
 
--- abbrev pub μ-rule-one : Measures 2 rule-one-kinds.ps ℕ
--- μ-rule-one κs a = 3 * length_cell a.0.now a.1.1.1.1.1.0 + 2
+abbrev pub decreases-rule_one : goal.decreases-rule_one
+decreases-rule_one l = 3 * length_cell l.plan.now l.l + 2
 
--- abbrev pub μ-solve-one : Measures 2 solve-one-kinds.ps ℕ
--- μ-solve-one κs a = 3 * length_cell a.0.now a.1.1.1.1.1.0
+abbrev pub decreases-solve_one : goal.decreases-solve_one
+decreases-solve_one l = 3 * length_cell l.plan.now l.l
 
 abbrev pub invariant-solve_one-loop-n : goal.invariant-solve_one-loop-n
 invariant-solve_one-loop-n l =

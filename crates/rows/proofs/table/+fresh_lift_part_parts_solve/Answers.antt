@@ -13,20 +13,20 @@ use Rattle.rows.specs.TurnLaws.{row_low, ruled_low, ruled_none, ruled_idle, rule
 use Rattle.rows.specs.IdleLaws.{Idle, taken_skip}
 use Rattle.rows.specs.CallLaws.{lift_slot, lift_solve, lift_more, leaf_asked, dot_asked, part_empty, lift_entry, lift_none, lift_all, moved_none, moved_more, leaf_entry, leaf_told}
 use Rattle.rows.specs.PartLaws.{rule_below, parts-length, parts_eight, parts_begin, parts_all, turn_near, turn_asked, turn_part, turn_more, parted_low}
-use Rattle.rows.specs.SolveLaws.{last_in, place_in, division_at, rule_below, split_told, rules_begin, rules_here, rules_next, rules_end, parts_entry, parts_shorter}
+use Rattle.rows.specs.SolveLaws.{last_in, place_in, division_at, rule_below as rule_within, split_told, rules_begin, rules_here, rules_next, rules_end, parts_entry, parts_shorter}
 use Rattle.rows.proofs.table.+fresh_lift_part_parts_solve.Goals as goal
 
 -- ---- fresh
 
 pub fresh-alone-requires : goal.fresh-alone-requires
 fresh-alone-requires t c =
-    (c.requires.1.0, fresh_asked c.requires.1.1)
+    (c.requires.0, fresh_asked c.requires.1)
 
 pub fresh-solve_one-y-requires : goal.fresh-solve_one-y-requires
 fresh-solve_one-y-requires t c =
     let alone = c.alone in
-    let e = c.requires.1.1 in
-    (c.requires.1.0, fresh_one e (alone.ensures _ (fresh_asked e) c.if-alone.true))
+    let e = c.requires.1 in
+    (c.requires.0, fresh_one e (alone.ensures _ (fresh_asked e) c.if-alone.true))
 
 pub fresh-returns-then-alone : goal.fresh-returns-then-alone
 fresh-returns-then-alone t c =
@@ -39,7 +39,7 @@ fresh-returns-then-alone t c =
 
 pub fresh-solve-requires : goal.fresh-solve-requires
 fresh-solve-requires t c =
-    (omega (arith, c.requires.0), c.requires.1)
+    (omega arith, c.requires)
 
 pub fresh-returns : goal.fresh-returns
 fresh-returns t c =
@@ -50,8 +50,8 @@ fresh-returns t c =
 
 pub lift-idle_at-requires : goal.lift-idle_at-requires
 lift-idle_at-requires t c =
-    let h = c.requires.1.2 in
-    (h.few, omega (arith, h.zero_is, h.low 0), (c.requires.1.0, h.stands.in_bar_lem.prepared))
+    let h = c.requires.2 in
+    (h.few, omega (arith, h.zero_is, h.low 0), (c.requires.0, h.stands.in_bar_lem.prepared))
 
 pub lift-returns-then-idle_at : goal.lift-returns-then-idle_at
 lift-returns-then-idle_at t c =
@@ -64,23 +64,23 @@ lift-returns-then-idle_at t c =
 
 pub lift-place_of-at-requires : goal.lift-place_of-at-requires
 lift-place_of-at-requires t c =
-    (c.requires.1.0, lift_slot c.requires.1.2)
+    (c.requires.0, lift_slot c.requires.2)
 
 pub lift-held-requires : goal.lift-held-requires
 lift-held-requires t c =
-    let h = c.requires.1.2 in
+    let h = c.requires.2 in
     let e = lift_solve h c.place_of-at.ensures in
     (solve_room e h.taken.sound, stands_bar h.stands)
 
 pub lift-load-y-requires : goal.lift-load-y-requires
 lift-load-y-requires t c =
-    let h = c.requires.1.2 in
+    let h = c.requires.2 in
     let e = lift_solve h c.place_of-at.ensures in
     solve_room e h.taken.sound
 
 pub lift-relax-requires : goal.lift-relax-requires
 lift-relax-requires t c =
-    let h = c.requires.1.2 in
+    let h = c.requires.2 in
     let e = lift_solve h c.place_of-at.ensures in
     let row = solve_loaded e (c.held.ensures.0 c.if-held.true) c.load-y.ensures in
     (omega (arith, h.total_is, h.low c.args.c), row_low h.stands.in_bar_lem.prepared.good h.few row c.totals.ensures)
@@ -94,13 +94,13 @@ lift-returns-then-held t c =
 
 pub lift-fresh-y-requires : goal.lift-fresh-y-requires
 lift-fresh-y-requires t c =
-    let h = c.requires.1.2 in
+    let h = c.requires.2 in
     let e = lift_solve h c.place_of-at.ensures in
-    (omega (arith, c.requires.0), (c.requires.1.0, e))
+    (omega arith, (c.requires.0, e))
 
 pub lift-relax-requires-2 : goal.lift-relax-requires-2
 lift-relax-requires-2 t c =
-    let h = c.requires.1.2 in
+    let h = c.requires.2 in
     let row = c.fresh-y.ensures _ (lift_solve h c.place_of-at.ensures) in
     (omega (arith, h.total_is, h.low c.args.c), row_low h.stands.in_bar_lem.prepared.good h.few row c.totals-2.ensures)
 
@@ -113,18 +113,18 @@ lift-returns t c =
 -- ---- part
 
 pub part-least_placed-requires : goal.part-least_placed-requires
-part-least_placed-requires t c = leaf_asked c.requires.1.1
+part-least_placed-requires t c = leaf_asked c.requires.1
 
 pub part-least_placed-requires-then-from-to : goal.part-least_placed-requires-then-from-to
-part-least_placed-requires-then-from-to t c = leaf_asked c.requires.1.1
+part-least_placed-requires-then-from-to t c = leaf_asked c.requires.1
 
 pub part-least_placed-requires-then-from-to-2 : goal.part-least_placed-requires-then-from-to-2
 part-least_placed-requires-then-from-to-2 t c =
-    leaf_asked c.requires.1.1
+    leaf_asked c.requires.1
 
 pub part-least_placed-requires-then-from-to-3 : goal.part-least_placed-requires-then-from-to-3
 part-least_placed-requires-then-from-to-3 t c =
-    leaf_asked c.requires.1.1
+    leaf_asked c.requires.1
 
 pub part-dot-requires : goal.part-dot-requires
 part-dot-requires t c =
@@ -132,7 +132,7 @@ part-dot-requires t c =
     let least-placed2 = c.least_placed-then-from-to in
     let least-placed3 = c.least_placed-then-from-to-2 in
     let least-placed4 = c.least_placed-then-from-to-3 in
-    dot_asked c.requires.1.1 least-placed.ensures least-placed2.ensures least-placed3.ensures least-placed4.ensures
+    dot_asked c.requires.1 least-placed.ensures least-placed2.ensures least-placed3.ensures least-placed4.ensures
 
 pub part-returns-then-from-to : goal.part-returns-then-from-to
 part-returns-then-from-to t c =
@@ -157,10 +157,10 @@ part-lift-w-requires t c =
     let reached = c.reached-n in
     let loop = c.loop-c in
     let few : loop.c < 4 = omega (arith, c.loop-c-test.true, reached.ensures.most) in
-    let s = c.requires.1.0 in
-    let h = c.requires.1.1 in
+    let s = c.requires.0 in
+    let h = c.requires.1 in
     let (moved, taken) = loop.invariant.1 s _ h refl (moved_none _) refl in
-    (omega (arith, c.requires.0), (s, _, lift_entry h if1.false few refl moved taken))
+    (omega arith, (s, _, lift_entry h if1.false few refl moved taken))
 
 pub part-overflow_add-c : goal.part-overflow_add-c
 part-overflow_add-c t c =
@@ -183,8 +183,8 @@ part-loop-c-preserved t c =
 
 pub part-shape_of-rows : goal.part-shape_of-rows
 part-shape_of-rows t c =
-    let s = c.requires.1.0 in
-    let h = c.requires.1.1 in
+    let s = c.requires.0 in
+    let h = c.requires.1 in
     (c.loop-c.invariant.1 s _ h refl (moved_none _) refl).1.sound.size ∙ sym h.sound.size
 
 pub part-returns : goal.part-returns
@@ -200,35 +200,35 @@ part-returns t c =
 
 pub parts-length-len-requires : goal.parts-length-len-requires
 parts-length-len-requires t c =
-    let e = c.requires.1.1 in
-    (parts-length e, (c.requires.1.0, e.in_bar_lem.prepared))
+    let e = c.requires.1 in
+    (parts-length e, (c.requires.0, e.in_bar_lem.prepared))
 
 pub parts-loop-j-init : goal.parts-loop-j-init
 parts-loop-j-init t c =
     let only_at = c.only_at-v in (
       omega arith,
-      c.requires.1.1.part_in,
+      c.requires.1.part_in,
       omega arith,
       λ s e. parts_begin e only_at.ensures,
     )
 
 pub parts-child-q-requires : goal.parts-child-q-requires
 parts-child-q-requires t c =
-    let e = c.requires.1.1 in
+    let e = c.requires.1 in
     (rule_below e, omega (arith, c.loop-j-test.true, parts_eight e))
 
 pub parts-overflow_add-end : goal.parts-overflow_add-end
 parts-overflow_add-end t c =
     let length = c.length-len in
     let loop = c.loop-j in
-    let e = c.requires.1.1 in
+    let e = c.requires.1 in
     omega (arith, turn_near e length.ensures loop.invariant.0 c.loop-j-test.true loop.invariant.2 (loop.invariant.3 _ e))
 
 pub parts-first_behind-to-requires : goal.parts-first_behind-to-requires
 parts-first_behind-to-requires t c =
     let length = c.length-len in
     let loop = c.loop-j in
-    let e = c.requires.1.1 in
+    let e = c.requires.1 in
     turn_asked e length.ensures loop.invariant.0 c.loop-j-test.true loop.invariant.2 (loop.invariant.3 _ e)
 
 pub parts-part-w-requires : goal.parts-part-w-requires
@@ -238,11 +238,11 @@ parts-part-w-requires t c =
     let loop-test = c.loop-j-test in
     let child = c.child-q in
     let first_behind = c.first_behind-to in
-    let e = c.requires.1.1 in
+    let e = c.requires.1 in
     let d = loop.invariant.3 _ e in
     let part =
     turn_part e length.ensures loop.invariant.0 loop-test.true loop.invariant.2 d first_behind.ensures child.ensures in
-    (omega (arith, c.requires.0), (c.requires.1.0, part))
+    (omega arith, (c.requires.0, part))
 
 pub parts-loop-j-preserved : goal.parts-loop-j-preserved
 parts-loop-j-preserved t c =
@@ -265,7 +265,7 @@ parts-loop-j-preserved t c =
 
 pub parts-shape_of-rows : goal.parts-shape_of-rows
 parts-shape_of-rows t c =
-    let e = c.requires.1.1 in
+    let e = c.requires.1 in
     (c.loop-j.invariant.3 _ e).sound.size ∙ sym e.sound.size
 
 pub parts-returns : goal.parts-returns
@@ -278,19 +278,19 @@ parts-returns t c =
 
 pub solve-length-requires : goal.solve-length-requires
 solve-length-requires t c =
-    let e = c.requires.1.1 in
-    (stands-length e.entry.stands, (c.requires.1.0, e.entry.stands.in_bar_lem.prepared))
+    let e = c.requires.1 in
+    (stands-length e.entry.stands, (c.requires.0, e.entry.stands.in_bar_lem.prepared))
 
 pub solve-last_division-last-requires : goal.solve-last_division-last-requires
-solve-last_division-last-requires t c = stands_head c.requires.1.1.entry.stands
+solve-last_division-last-requires t c = stands_head c.requires.1.entry.stands
 
 pub solve-leaf_row-best-requires : goal.solve-leaf_row-best-requires
 solve-leaf_row-best-requires t c =
-    let e = c.requires.1.1 in
-    (c.requires.1.0, leaf_entry e.entry c.length.ensures)
+    let e = c.requires.1 in
+    (c.requires.0, leaf_entry e.entry c.length.ensures)
 
 pub solve-first_division-n-requires : goal.solve-first_division-n-requires
-solve-first_division-n-requires t c = stands_head c.requires.1.1.entry.stands
+solve-first_division-n-requires t c = stands_head c.requires.1.entry.stands
 
 pub solve-loop-n-init : goal.solve-loop-n-init
 solve-loop-n-init t c =
@@ -301,42 +301,42 @@ solve-loop-n-init t c =
 
 pub solve-rule_at_place-rule-requires : goal.solve-rule_at_place-rule-requires
 solve-rule_at_place-rule-requires t c =
-    let e = c.requires.1.1 in
+    let e = c.requires.1 in
     place_in e (c.loop-n.invariant _ e) c.last_division-last.ensures c.loop-n-test.true
 
 pub solve-split_at_place-split-requires : goal.solve-split_at_place-split-requires
 solve-split_at_place-split-requires t c =
-    let e = c.requires.1.1 in
+    let e = c.requires.1 in
     let less = c.loop-n-test.true in
     (place_in e (c.loop-n.invariant _ e) c.last_division-last.ensures less, stands-length e.entry.stands)
 
 pub solve-overflow_add-n : goal.solve-overflow_add-n
 solve-overflow_add-n t c =
-    let e = c.requires.1.1 in
+    let e = c.requires.1 in
     omega (arith, c.loop-n-test.true, last_in e c.last_division-last.ensures)
 
 pub solve-parts-v-requires : goal.solve-parts-v-requires
 solve-parts-v-requires t c =
-    let e = c.requires.1.1 in
+    let e = c.requires.1 in
     let t = e.entry.stands in
     let done = c.loop-n.invariant _ e in
     let k = c.last_division-last.ensures in
     let less = c.loop-n-test.true in
     let split = c.split_at_place-split.ensures.1 _ _ t.in_bar_lem.prepared (division_at e done k less) t.length_in in
     let d = (split_told e done k less c.rule_at_place-rule.ensures split).divides c.if-k-ne0.true in
-    (omega (arith, c.requires.0, parts_shorter e d), (c.requires.1.0, parts_entry e d done.ruled.sound))
+    (omega (arith, parts_shorter e d), (c.requires.0, parts_entry e d done.ruled.sound))
 
 pub solve-cost-requires : goal.solve-cost-requires
 solve-cost-requires t c =
-    let e = c.requires.1.1 in
+    let e = c.requires.1 in
     let less = c.loop-n-test.true in (
-      rule_below e (c.loop-n.invariant _ e) c.last_division-last.ensures less c.rule_at_place-rule.ensures,
-      (c.requires.1.0, e.entry.stands.in_bar_lem.prepared),
+      rule_within e (c.loop-n.invariant _ e) c.last_division-last.ensures less c.rule_at_place-rule.ensures,
+      (c.requires.0, e.entry.stands.in_bar_lem.prepared),
     )
 
 pub solve-relax_rule-y-requires : goal.solve-relax_rule-y-requires
 solve-relax_rule-y-requires t c =
-    let e = c.requires.1.1 in
+    let e = c.requires.1 in
     let t = e.entry.stands in
     let done = c.loop-n.invariant _ e in
     let k = c.last_division-last.ensures in
@@ -345,7 +345,7 @@ solve-relax_rule-y-requires t c =
     let split = c.split_at_place-split.ensures.1 _ _ t.in_bar_lem.prepared (division_at e done k less) t.length_in in
     let d = (split_told e done k less is split).divides c.if-k-ne0.true in (
       omega (arith, c.cost.ensures.0),
-      omega (arith, rule_below e done k less is),
+      omega (arith, rule_within e done k less is),
       parted_low d.rule (c.parts-v.ensures _ (parts_entry e d done.ruled.sound)),
     )
 
@@ -378,17 +378,17 @@ solve-loop-n-preserved t c =
 
 pub solve-overflow_add-bar : goal.solve-overflow_add-bar
 solve-overflow_add-bar t c =
-    omega (arith, stands_bar c.requires.1.1.entry.stands)
+    omega (arith, stands_bar c.requires.1.entry.stands)
 
 pub solve-store-requires : goal.solve-store-requires
 solve-store-requires t c =
-    let e = c.requires.1.1 in
+    let e = c.requires.1 in
     let p = (c.loop-n.invariant _ e).ruled in
     (solve_room e p.sound, omega (arith, stands_bar e.entry.stands), ruled_low p)
 
 pub solve-shape_of-rows : goal.solve-shape_of-rows
 solve-shape_of-rows t c =
-    let e = c.requires.1.1 in
+    let e = c.requires.1 in
     let row = rules_end e (c.loop-n.invariant _ e) c.last_division-last.ensures c.loop-n-test.false in
     (solve_stored e row c.store.ensures).sound.size ∙ sym e.entry.sound.size
 

@@ -2,6 +2,7 @@ use Prim.Native.Nat.{ℕ, ◌-◌, ◌≤◌, ◌+◌, ◌*◌}
 use mathlib.Core.Path.{◌≡◌}
 use lib.ListN.{get_or}
 use mathlib.Core.List.{List}
+use Rattle.plan.specs.Plan.{length_cell}
 use Rattle.sheet.specs.Sheet.{Sheet}
 use Rattle.rows.specs.Slots.{item_at}
 use Rattle.rows.specs.Rows.{Taken, PartEntry, MovedTo, PartsEntry, SolveEntry}
@@ -10,20 +11,20 @@ use Rattle.rows.specs.PartLaws.{PartsDone, kids_of}
 use Rattle.rows.specs.SolveLaws.{Done}
 use Rattle.rows.proofs.table.+fresh_lift_part_parts_solve.Given as goal
 
--- abbrev pub μ-fresh : Measures 2 fresh-kinds.ps ℕ
--- μ-fresh κs a = 5 * length_cell a.0.now a.1.1.1.1.1.0 + 1
+abbrev pub decreases-fresh : goal.decreases-fresh
+decreases-fresh l = 5 * length_cell l.plan.now l.l + 1
 
--- abbrev pub μ-lift : Measures 2 lift-kinds.ps ℕ
--- μ-lift κs a = 5 * length_cell a.0.now a.1.1.1.1.1.0 + 2
+abbrev pub decreases-lift : goal.decreases-lift
+decreases-lift l = 5 * length_cell l.plan.now l.l + 2
 
--- abbrev pub μ-part : Measures 2 part-kinds.ps ℕ
--- μ-part κs a = 5 * length_cell a.0.now a.1.1.1.1.1.0 + 3
+abbrev pub decreases-part : goal.decreases-part
+decreases-part l = 5 * length_cell l.plan.now l.l + 3
 
--- abbrev pub μ-parts : Measures 2 parts-kinds.ps ℕ
--- μ-parts κs a = 5 * length_cell a.0.now a.1.1.1.1.1.1.1.0 + 4
+abbrev pub decreases-parts : goal.decreases-parts
+decreases-parts l = 5 * length_cell l.plan.now l.l + 4
 
--- abbrev pub μ-solve : Measures 2 solve-kinds.ps ℕ
--- μ-solve κs a = 5 * length_cell a.0.now a.1.1.1.1.1.0
+abbrev pub decreases-solve : goal.decreases-solve
+decreases-solve l = 5 * length_cell l.plan.now l.l
 
 abbrev pub invariant-part-loop-c : goal.invariant-part-loop-c
 invariant-part-loop-c l =

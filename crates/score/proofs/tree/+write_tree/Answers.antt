@@ -23,29 +23,29 @@ write-tree-below t =
     and 2 write-tree-kinds.ps (falls 2 write-tree-kinds.ps ◌<◌ μ-write-tree t) write-tree.Pre
 
 pub bounds-list-at : goal.bounds-list-at
-bounds-list-at t c = let h = c.requires.1.3 in rule_left h
+bounds-list-at t c = let h = c.requires.3 in rule_left h
 
 pub overflow_cast-list : goal.overflow_cast-list
 overflow_cast-list t c = omega (arith, c.shared_slice_known-2-1.given c.args.p.at)
 
 pub rule_at-rule-requires : goal.rule_at-rule-requires
-rule_at-rule-requires t c = let h = c.requires.1.3 in rule_small h
+rule_at-rule-requires t c = let h = c.requires.3 in rule_small h
 
 pub overflow_add-next : goal.overflow_add-next
-overflow_add-next t c = let h = c.requires.1.3 in let f = rule_left h in search rules
+overflow_add-next t c = let h = c.requires.3 in let f = rule_left h in search rules
 
 pub write_leaf-requires : goal.write_leaf-requires
 write_leaf-requires t c =
     let rule = c.rule-1 in
     let rule_at_lem = c.rule_at-rule in
-    let h = c.requires.1.3 in
-    (c.requires.1.0, leaf_entry h (leaf_here h _ _ _ _ rule_at_lem.ensures rule.given.1))
+    let h = c.requires.3 in
+    (c.requires.0, leaf_entry h (leaf_here h _ _ _ _ rule_at_lem.ensures rule.given.1))
 
 pub nonzero_div-len : goal.nonzero_div-len
 nonzero_div-len t c =
     let rule2 = c.rule-in-Division-1 in
     let rule_at_lem = c.rule_at-rule in
-    let h = c.requires.1.3 in
+    let h = c.requires.3 in
     let d = division_here h _ _ _ _ rule_at_lem.ensures rule2.given.1 in
     let f = two_parts h d.1 d.2 in
     search rules
@@ -59,12 +59,12 @@ write_tree-further-requires t c =
     let loop = c.loop-j in
     let rule2 = c.rule-in-Division-1 in
     let rule_at_lem = c.rule_at-rule in
-    let h = c.requires.1.3 in
+    let h = c.requires.3 in
     let d = division_here h _ _ _ _ rule_at_lem.ensures rule2.given.1 in
     let g = parts_entry h d.1 d.2 in
     let u = loop.invariant.3 _ _ d.0 d.1 g in (
-      omega (arith, part_shorter h d.1 d.2, c.requires.0),
-      (c.requires.1.0, _, _, part_entry g loop.j (omega (arith, loop-test.true, d.1)) loop.left loop.invariant.1 _ _ u),
+      omega (arith, part_shorter h d.1 d.2),
+      (c.requires.0, _, _, part_entry g loop.j (omega (arith, loop-test.true, d.1)) loop.left loop.invariant.1 _ _ u),
     )
 
 pub overflow_add-left : goal.overflow_add-left
@@ -73,7 +73,7 @@ overflow_add-left t c =
     let loop = c.loop-j in
     let rule2 = c.rule-in-Division-1 in
     let rule_at_lem = c.rule_at-rule in
-    let h = c.requires.1.3 in
+    let h = c.requires.3 in
     let d = division_here h _ _ _ _ rule_at_lem.ensures rule2.given.1 in
     let g = parts_entry h d.1 d.2 in
     let u = loop.invariant.3 _ _ d.0 d.1 g in

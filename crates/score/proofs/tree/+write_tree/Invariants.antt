@@ -8,8 +8,8 @@ use Rattle.derivations.specs.Derivation.{Item}
 use Rattle.score.proofs.PartsSteps.{PartsPre, PartsUpto}
 use Rattle.score.proofs.tree.+write_tree.Given as goal
 
--- abbrev μ-write-tree : Measures 2 write-tree-kinds.ps ℕ
--- μ-write-tree κs a = a.1.1.1.1.0.len.0
+abbrev pub decreases-write_tree : goal.decreases-write_tree
+decreases-write_tree l = l.over.len.0
 
 abbrev pub invariant-loop-j : goal.invariant-loop-j
 invariant-loop-j l =

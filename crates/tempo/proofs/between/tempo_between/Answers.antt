@@ -1,23 +1,23 @@
 -- `tempo_between` meets its contract: at each return the tests that led there pick the definition's case. Assumes nothing.
 use mathlib.Core.Path.{sym, ◌∙◌}
-use borrow.Author.Tests.{not-true, not-false, lt-ltb, le-ltb}
+use borrow.Author.Tests.{lt-ltb, le-ltb}
 use Rattle.tempo.proofs.between.tempo_between.Goals as goal
 
 pub returns-then-not-in_range : goal.returns-then-not-in_range
-returns-then-not-in_range c = simp (sym c.in_range.ensures ∙ not-true _ c.if-not-in_range.true)
+returns-then-not-in_range c = simp (sym c.in_range.ensures ∙ c.if-not-in_range.true)
 
 pub returns-then-not-in_range-2 : goal.returns-then-not-in_range-2
 returns-then-not-in_range-2 c =
     simp (
-      sym c.in_range.ensures ∙ not-false _ c.if-not-in_range.false,
-      sym c.in_range-2.ensures ∙ not-true _ c.if-not-in_range-2.true,
+      sym c.in_range.ensures ∙ c.if-not-in_range.false,
+      sym c.in_range-2.ensures ∙ c.if-not-in_range-2.true,
     )
 
 pub returns-then-a2-a1 : goal.returns-then-a2-a1
 returns-then-a2-a1 c =
     simp (
-      sym c.in_range.ensures ∙ not-false _ c.if-not-in_range.false,
-      sym c.in_range-2.ensures ∙ not-false _ c.if-not-in_range-2.false,
+      sym c.in_range.ensures ∙ c.if-not-in_range.false,
+      sym c.in_range-2.ensures ∙ c.if-not-in_range-2.false,
       lt-ltb _ _ c.if-a2-a1.true,
       sym c.percentage.ensures,
     )
@@ -25,8 +25,8 @@ returns-then-a2-a1 c =
 pub returns-then-a1-a2 : goal.returns-then-a1-a2
 returns-then-a1-a2 c =
     simp (
-      sym c.in_range.ensures ∙ not-false _ c.if-not-in_range.false,
-      sym c.in_range-2.ensures ∙ not-false _ c.if-not-in_range-2.false,
+      sym c.in_range.ensures ∙ c.if-not-in_range.false,
+      sym c.in_range-2.ensures ∙ c.if-not-in_range-2.false,
       le-ltb _ _ c.if-a2-a1.false,
       lt-ltb _ _ c.if-a1-a2.true,
       sym c.percentage-then-a1-a2.ensures,
@@ -36,8 +36,8 @@ returns-then-a1-a2 c =
 pub returns : goal.returns
 returns c =
     simp (
-      sym c.in_range.ensures ∙ not-false _ c.if-not-in_range.false,
-      sym c.in_range-2.ensures ∙ not-false _ c.if-not-in_range-2.false,
+      sym c.in_range.ensures ∙ c.if-not-in_range.false,
+      sym c.in_range-2.ensures ∙ c.if-not-in_range-2.false,
       le-ltb _ _ c.if-a2-a1.false,
       le-ltb _ _ c.if-a1-a2.false,
     )
