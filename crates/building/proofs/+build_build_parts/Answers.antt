@@ -2,7 +2,7 @@
 -- parts: a division's parts are shorter than its interval. The invariant of the loop over the parts: the first j parts are built
 -- (`InParts`), and `lo` is the left bound of the next. The needs of each member are met in a file of its own. Assumes nothing.
 use mathlib.Core.List.{[]}
-use Prim.Native.Nat.{◌+◌, ◌%◌, ◌≤◌}
+use Prim.Native.Nat.{ℕ, ◌+◌, ◌%◌, ◌≤◌}
 use mathlib.Core.Path.{sym, ap, ◌∙◌, ◌≡◌}
 use mathlib.Core.List.{◌∷◌}
 use native.Mathlib.Omega.{arith}
@@ -19,25 +19,25 @@ use Rattle.expansions.specs.Items.{first_at}
 use Rattle.rows.specs.Rows.{Entry, Row, parts_at}
 use Rattle.rows.specs.PartLaws.{rule_below, parts-length, parts_eight}
 use Rattle.building.proofs.PartSteps.{in_parts_none, part_near, part_entry, part_behind, part_build, in_parts_more, in_parts_all}
-use Rattle.building.proofs.+build_build_parts.Goals.{After-build_parts, After-child-q, After-split_at-split, After-suffix_costs-w, After-totals-x, Else-k-eq0}
+use Rattle.building.proofs.+build_build_parts.Goals.{build-After-build_parts, build-After-split_at-split, build-Else-k-eq0, build_parts-After-child-q, build_parts-After-suffix_costs-w, build_parts-After-totals-x}
 use Rattle.building.proofs.+build_build_parts.Goals as goal
 
 -- ---- build
 
-chosen : (c : After-split_at-split) (s : Sheet) → (let a = c.args in
+chosen : (t : ℕ) (c : build-After-split_at-split t) (s : Sheet) → (let a = c.args in
     BuildPre s a.plan.now a.units.now a.rows.now a.tree.now a.bar a.q a.l a.left a.from a.c a.y
     a.v a.to)
     → let a = c.args in
     Chosen s (item_at s a.q a.l a.left) (at a.v) a.c ((c.least_cell.result % 64))
-chosen c s h = build_chosen h _ c.least_cell.ensures
+chosen t c s h = build_chosen h _ c.least_cell.ensures
 
-split : (c : After-split_at-split) (s : Sheet) → (let a = c.args in
+split : (t : ℕ) (c : build-After-split_at-split t) (s : Sheet) → (let a = c.args in
     BuildPre s a.plan.now a.units.now a.rows.now a.tree.now a.bar a.q a.l a.left a.from a.c a.y
     a.v a.to)
     → SplitAt s c.args.q c.args.l ((c.least_cell.result % 64)) c.split_at-split.result
-split c s h = c.split_at-split.ensures.1 s h.entry.stands.in_bar_lem.prepared h.entry.stands.length_in
+split t c s h = c.split_at-split.ensures.1 s h.entry.stands.in_bar_lem.prepared h.entry.stands.length_in
 
-entry : (c : Else-k-eq0) (s : Sheet) → (let a = c.args in
+entry : (t : ℕ) (c : build-Else-k-eq0 t) (s : Sheet) → (let a = c.args in
     BuildPre s a.plan.now a.units.now a.rows.now a.tree.now a.bar a.q a.l a.left a.from a.c a.y
     a.v a.to)
     → let a = c.args in
@@ -45,7 +45,7 @@ entry : (c : Else-k-eq0) (s : Sheet) → (let a = c.args in
     let p = c.split_at-split.result in
     PartsBuildPre s a.plan.now a.units.now a.rows.now (set a.tree.now a.to rule) a.bar rule p.arity p.part
     a.left a.from a.c a.v (a.to + 1)
-entry c s h =
+entry t c s h =
     let chosen-here : (s : Sheet) → (let a = c.args in
     BuildPre s a.plan.now a.units.now a.rows.now a.tree.now a.bar a.q a.l a.left a.from a.c a.y
     a.v a.to)
@@ -59,13 +59,13 @@ entry c s h =
     λ s h. c.split_at-split.ensures.1 s h.entry.stands.in_bar_lem.prepared h.entry.stands.length_in in
     build_parts_entry h ((c.least_cell.result % 64)) (chosen-here s h) c.split_at-split.result (split-here s h) c.if-k-eq0.false
 
-built : (c : After-build_parts) (s : Sheet) → (let a = c.args in
+built : (t : ℕ) (c : build-After-build_parts t) (s : Sheet) → (let a = c.args in
     BuildPre s a.plan.now a.units.now a.rows.now a.tree.now a.bar a.q a.l a.left a.from a.c a.y
     a.v a.to)
     → let a = c.args in
     BuiltAs s c.build_parts.new.rows a.tree.now c.build_parts.new.tree (item_at s a.q a.l a.left ∷ [])
     (at a.v) a.c a.to c.build_parts.result
-built c s h =
+built t c s h =
     let chosen-here : (s : Sheet) → (let a = c.args in
     BuildPre s a.plan.now a.units.now a.rows.now a.tree.now a.bar a.q a.l a.left a.from a.c a.y
     a.v a.to)
@@ -78,13 +78,15 @@ built c s h =
     → SplitAt s c.args.q c.args.l ((c.least_cell.result % 64)) c.split_at-split.result =
     λ s h. c.split_at-split.ensures.1 s h.entry.stands.in_bar_lem.prepared h.entry.stands.length_in in
     let entry-here : (s : Sheet) → (let a = c.args in
-    PartsBuildPre s a.plan.now a.units.now a.rows.now a.tree.now a.bar a.r a.k a.l a.left a.from
-    a.c a.v a.to) → let a = c.args in
-    let loop = c.loop-j in
-    Entry s a.plan.now a.units.now loop.rows a.bar c.child-q.result a.l (units_of loop.lo) loop.at loop.carry =
-    λ s h. part_entry h (c.loop-j.invariant.2 s h) c.loop-j-test.true c.length-len.ensures c.loop-j.invariant.0
-    c.child-q.ensures in
-    built_division h ((c.least_cell.result % 64)) (chosen-here s h) c.split_at-split.result (split-here s h) c.if-k-eq0.left
+    BuildPre s a.plan.now a.units.now a.rows.now a.tree.now a.bar a.q a.l a.left a.from a.c a.y
+    a.v a.to)
+    → let a = c.args in
+    let rule = (c.least_cell.result % 64) in
+    let p = c.split_at-split.result in
+    PartsBuildPre s a.plan.now a.units.now a.rows.now (set a.tree.now a.to rule) a.bar rule p.arity p.part
+    a.left a.from a.c a.v (a.to + 1) =
+    λ s h. build_parts_entry h ((c.least_cell.result % 64)) (chosen-here s h) c.split_at-split.result (split-here s h) c.if-k-eq0.false in
+    built_division h ((c.least_cell.result % 64)) (chosen-here s h) c.split_at-split.result (split-here s h) c.if-k-eq0.false
     c.build_parts.new.rows c.build_parts.new.tree c.build_parts.result
     (c.build_parts.ensures s (entry-here s h))
 
@@ -121,7 +123,7 @@ build-returns-then-k-eq0 t c =
     let len = c.length.result.0 in
     λ s h.
     let late = late_placed h len c.length.ensures _ (c.place-placed.ensures s (build_here h len c.length.ensures)) in
-    built_leaf h ((c.least_cell.result % 64)) (chosen (goal.at.build-returns-then-k-eq0 t c).After-split_at-split s h) c.split_at-split.result (split (goal.at.build-returns-then-k-eq0 t c).After-split_at-split s h) c.if-k-eq0.true _ late
+    built_leaf h ((c.least_cell.result % 64)) (chosen t (goal.at.build-returns-then-k-eq0 t c).After-split_at-split s h) c.split_at-split.result (split t (goal.at.build-returns-then-k-eq0 t c).After-split_at-split s h) c.if-k-eq0.true _ late
 
 pub build-overflow_add-to : goal.build-overflow_add-to
 build-overflow_add-to t c =
@@ -133,45 +135,45 @@ build-build_parts-requires t c =
     let s = c.requires.0 in
     let h = c.requires.1 in
     let shorter =
-    parts_shorter h ((c.least_cell.result % 64)) (chosen (goal.at.build-build_parts-requires t c).After-split_at-split s h) c.split_at-split.result (split (goal.at.build-build_parts-requires t c).After-split_at-split s h) c.if-k-eq0.false in
-    (omega (arith, shorter), (s, entry (goal.at.build-build_parts-requires t c).Else-k-eq0 s h))
+    parts_shorter h ((c.least_cell.result % 64)) (chosen t (goal.at.build-build_parts-requires t c).After-split_at-split s h) c.split_at-split.result (split t (goal.at.build-build_parts-requires t c).After-split_at-split s h) c.if-k-eq0.false in
+    (omega (arith, shorter), (s, entry t (goal.at.build-build_parts-requires t c).Else-k-eq0 s h))
 
 pub build-shape_of-rows : goal.build-shape_of-rows
 build-shape_of-rows t c =
     let h = c.requires.1 in
-    (built (goal.at.build-shape_of-rows t c).After-build_parts _ h).sound.size ∙ sym h.entry.sound.size
+    (built t (goal.at.build-shape_of-rows t c).After-build_parts _ h).sound.size ∙ sym h.entry.sound.size
 
 pub build-shape_of-tree : goal.build-shape_of-tree
 build-shape_of-tree t c =
     let h = c.requires.1 in
-    ap length (built (goal.at.build-shape_of-tree t c).After-build_parts _ h).written ∙ length-over_from _ _ _
+    ap length (built t (goal.at.build-shape_of-tree t c).After-build_parts _ h).written ∙ length-over_from _ _ _
 
 -- a division
 pub build-returns : goal.build-returns
-build-returns t c = λ s h. built (goal.at.build-returns t c).After-build_parts s h
+build-returns t c = λ s h. built t (goal.at.build-returns t c).After-build_parts s h
 
 -- ---- build_parts
 
-near : (c : After-child-q) (s : Sheet) → (let a = c.args in
+near : (t : ℕ) (c : build_parts-After-child-q t) (s : Sheet) → (let a = c.args in
     PartsBuildPre s a.plan.now a.units.now a.rows.now a.tree.now a.bar a.r a.k a.l a.left a.from
     a.c a.v a.to) → (c.loop-j.lo + c.length-len.result.0) ≤ last_unit
-near c s h =
+near t c s h =
     part_near h (c.loop-j.invariant.2 s h) c.loop-j-test.true c.length-len.ensures c.loop-j.invariant.0
 
 -- its row may be asked for
-entry : (c : After-child-q) (s : Sheet) → (let a = c.args in
+cells_entry : (t : ℕ) (c : build_parts-After-child-q t) (s : Sheet) → (let a = c.args in
     PartsBuildPre s a.plan.now a.units.now a.rows.now a.tree.now a.bar a.r a.k a.l a.left a.from
     a.c a.v a.to) → let a = c.args in
     let loop = c.loop-j in
     Entry s a.plan.now a.units.now loop.rows a.bar c.child-q.result a.l (units_of loop.lo) loop.at loop.carry
-entry c s h =
+cells_entry t c s h =
     part_entry h (c.loop-j.invariant.2 s h) c.loop-j-test.true c.length-len.ensures c.loop-j.invariant.0
     c.child-q.ensures
 
-first-is : (c : After-totals-x) (s : Sheet) → (let a = c.args in
+first-is : (t : ℕ) (c : build_parts-After-totals-x t) (s : Sheet) → (let a = c.args in
     PartsBuildPre s a.plan.now a.units.now a.rows.now a.tree.now a.bar a.r a.k a.l a.left a.from
     a.c a.v a.to) → c.first_behind-then.result ≡ first_at s ((c.loop-j.lo + c.length-len.result.0))
-first-is c s h =
+first-is t c s h =
     let near-here : (s : Sheet) → (let a = c.args in
     PartsBuildPre s a.plan.now a.units.now a.rows.now a.tree.now a.bar a.r a.k a.l a.left a.from
     a.c a.v a.to) → (c.loop-j.lo + c.length-len.result.0) ≤ last_unit =
@@ -179,31 +181,31 @@ first-is c s h =
     c.first_behind-then.ensures s c.loop-j.lo h.parts.in_bar_lem.onsets
     (c.loop-j.invariant.2 s h).first (omega arith) (omega (arith, near-here s h))
 
-row : (c : After-totals-x) (s : Sheet) → (let a = c.args in
+row : (t : ℕ) (c : build_parts-After-totals-x t) (s : Sheet) → (let a = c.args in
     PartsBuildPre s a.plan.now a.units.now a.rows.now a.tree.now a.bar a.r a.k a.l a.left a.from
     a.c a.v a.to) → let loop = c.loop-j in
     let cells = c.cells-y in
-    Row s cells.new.1.1.0 (item_at s c.child-q.result c.args.l (units_of loop.lo)) loop.carry
+    Row s cells.new.rows (item_at s c.child-q.result c.args.l (units_of loop.lo)) loop.carry
     cells.result
-row c s h =
-    let entry-here : (s : Sheet) → (let a = c.args in
+row t c s h =
+    let cells_entry-here : (s : Sheet) → (let a = c.args in
     PartsBuildPre s a.plan.now a.units.now a.rows.now a.tree.now a.bar a.r a.k a.l a.left a.from
     a.c a.v a.to) → let a = c.args in
     let loop = c.loop-j in
     Entry s a.plan.now a.units.now loop.rows a.bar c.child-q.result a.l (units_of loop.lo) loop.at loop.carry =
     λ s h. part_entry h (c.loop-j.invariant.2 s h) c.loop-j-test.true c.length-len.ensures c.loop-j.invariant.0
     c.child-q.ensures in
-    c.cells-y.ensures s (entry-here s h)
+    c.cells-y.ensures s (cells_entry-here s h)
 
 -- the suffix costs behind it may be asked for
-suffix-costs-entry : (c : After-totals-x) (s : Sheet) → (let a = c.args in
+suffix-costs-entry : (t : ℕ) (c : build_parts-After-totals-x t) (s : Sheet) → (let a = c.args in
     PartsBuildPre s a.plan.now a.units.now a.rows.now a.tree.now a.bar a.r a.k a.l a.left a.from
     a.c a.v a.to) → let a = c.args in
     let loop = c.loop-j in
     SuffixPre s a.plan.now a.units.now c.cells-y.new.rows a.bar a.r (loop.j + 1) a.k
     a.l (units_of ((c.loop-j.lo + c.length-len.result.0))) (c.first_behind-then.result) 0 c.totals-x.result a.v
-suffix-costs-entry c s h =
-    let entry-here : (s : Sheet) → (let a = c.args in
+suffix-costs-entry t c s h =
+    let cells_entry-here : (s : Sheet) → (let a = c.args in
     PartsBuildPre s a.plan.now a.units.now a.rows.now a.tree.now a.bar a.r a.k a.l a.left a.from
     a.c a.v a.to) → let a = c.args in
     let loop = c.loop-j in
@@ -214,9 +216,9 @@ suffix-costs-entry c s h =
     PartsBuildPre s a.plan.now a.units.now a.rows.now a.tree.now a.bar a.r a.k a.l a.left a.from
     a.c a.v a.to) → let loop = c.loop-j in
     let cells = c.cells-y in
-    Row s cells.new.1.1.0 (item_at s c.child-q.result c.args.l (units_of loop.lo)) loop.carry
+    Row s cells.new.rows (item_at s c.child-q.result c.args.l (units_of loop.lo)) loop.carry
     cells.result =
-    λ s h. c.cells-y.ensures s (entry-here s h) in
+    λ s h. c.cells-y.ensures s (cells_entry-here s h) in
     let near-here : (s : Sheet) → (let a = c.args in
     PartsBuildPre s a.plan.now a.units.now a.rows.now a.tree.now a.bar a.r a.k a.l a.left a.from
     a.c a.v a.to) → (c.loop-j.lo + c.length-len.result.0) ≤ last_unit =
@@ -229,14 +231,14 @@ suffix-costs-entry c s h =
     part_behind h (c.loop-j.invariant.2 s h) c.loop-j-test.true c.length-len.ensures
     c.loop-j.invariant.0 c.child-q.ensures (row-here s h) c.totals-x.ensures (first-is-here s h)
 
-vector : (c : After-suffix_costs-w) (s : Sheet) (h : (let a = c.args in
+vector : (t : ℕ) (c : build_parts-After-suffix_costs-w t) (s : Sheet) (h : (let a = c.args in
     PartsBuildPre s a.plan.now a.units.now a.rows.now a.tree.now a.bar a.r a.k a.l a.left a.from
     a.c a.v a.to)) → let a = c.args in
     SuffixCosts s c.suffix_costs-w.new.rows
     (parts_at s a.l (units_of ((c.loop-j.lo + c.length-len.result.0))) (drop (c.loop-j.j + 1)
     h.parts.divides.parts)) c.totals-x.result a.v c.suffix_costs-w.result
-vector c s h =
-    let entry-here : (s : Sheet) → (let a = c.args in
+vector t c s h =
+    let cells_entry-here : (s : Sheet) → (let a = c.args in
     PartsBuildPre s a.plan.now a.units.now a.rows.now a.tree.now a.bar a.r a.k a.l a.left a.from
     a.c a.v a.to) → let a = c.args in
     let loop = c.loop-j in
@@ -247,9 +249,9 @@ vector c s h =
     PartsBuildPre s a.plan.now a.units.now a.rows.now a.tree.now a.bar a.r a.k a.l a.left a.from
     a.c a.v a.to) → let loop = c.loop-j in
     let cells = c.cells-y in
-    Row s cells.new.1.1.0 (item_at s c.child-q.result c.args.l (units_of loop.lo)) loop.carry
+    Row s cells.new.rows (item_at s c.child-q.result c.args.l (units_of loop.lo)) loop.carry
     cells.result =
-    λ s h. c.cells-y.ensures s (entry-here s h) in
+    λ s h. c.cells-y.ensures s (cells_entry-here s h) in
     let near-here : (s : Sheet) → (let a = c.args in
     PartsBuildPre s a.plan.now a.units.now a.rows.now a.tree.now a.bar a.r a.k a.l a.left a.from
     a.c a.v a.to) → (c.loop-j.lo + c.length-len.result.0) ≤ last_unit =
@@ -270,15 +272,15 @@ vector c s h =
     c.suffix_costs-w.ensures s (suffix-costs-entry-here s h)
 
 -- it may be built
-build-entry : (c : After-suffix_costs-w) (s : Sheet) → (let a = c.args in
+build-entry : (t : ℕ) (c : build_parts-After-suffix_costs-w t) (s : Sheet) → (let a = c.args in
     PartsBuildPre s a.plan.now a.units.now a.rows.now a.tree.now a.bar a.r a.k a.l a.left a.from
     a.c a.v a.to) → let a = c.args in
     let loop = c.loop-j in
     BuildPre s a.plan.now a.units.now c.suffix_costs-w.new.rows loop.tree a.bar c.child-q.result a.l
     (units_of loop.lo) loop.at loop.carry c.cells-y.result c.suffix_costs-w.result
     loop.next
-build-entry c s h =
-    let entry-here : (s : Sheet) → (let a = c.args in
+build-entry t c s h =
+    let cells_entry-here : (s : Sheet) → (let a = c.args in
     PartsBuildPre s a.plan.now a.units.now a.rows.now a.tree.now a.bar a.r a.k a.l a.left a.from
     a.c a.v a.to) → let a = c.args in
     let loop = c.loop-j in
@@ -289,9 +291,9 @@ build-entry c s h =
     PartsBuildPre s a.plan.now a.units.now a.rows.now a.tree.now a.bar a.r a.k a.l a.left a.from
     a.c a.v a.to) → let loop = c.loop-j in
     let cells = c.cells-y in
-    Row s cells.new.1.1.0 (item_at s c.child-q.result c.args.l (units_of loop.lo)) loop.carry
+    Row s cells.new.rows (item_at s c.child-q.result c.args.l (units_of loop.lo)) loop.carry
     cells.result =
-    λ s h. c.cells-y.ensures s (entry-here s h) in
+    λ s h. c.cells-y.ensures s (cells_entry-here s h) in
     let near-here : (s : Sheet) → (let a = c.args in
     PartsBuildPre s a.plan.now a.units.now a.rows.now a.tree.now a.bar a.r a.k a.l a.left a.from
     a.c a.v a.to) → (c.loop-j.lo + c.length-len.result.0) ≤ last_unit =
@@ -337,26 +339,26 @@ pub build_parts-overflow_add-j : goal.build_parts-overflow_add-j
 build_parts-overflow_add-j t c = omega (arith, c.loop-j-test.true, parts_eight c.requires.1.parts)
 
 pub build_parts-overflow_add-end : goal.build_parts-overflow_add-end
-build_parts-overflow_add-end t c = omega (arith, near (goal.at.build_parts-overflow_add-end t c).After-child-q _ c.requires.1)
+build_parts-overflow_add-end t c = omega (arith, near t (goal.at.build_parts-overflow_add-end t c).After-child-q _ c.requires.1)
 
 pub build_parts-first_behind-then-requires : goal.build_parts-first_behind-then-requires
 build_parts-first_behind-then-requires t c =
     let s = c.requires.0 in
     let h = c.requires.1 in
-    (s, c.loop-j.lo, h.parts.in_bar_lem.onsets, (c.loop-j.invariant.2 s h).first, omega arith, omega (arith, near (goal.at.build_parts-first_behind-then-requires t c).After-child-q s h))
+    (s, c.loop-j.lo, h.parts.in_bar_lem.onsets, (c.loop-j.invariant.2 s h).first, omega arith, omega (arith, near t (goal.at.build_parts-first_behind-then-requires t c).After-child-q s h))
 
 pub build_parts-cells-y-requires : goal.build_parts-cells-y-requires
 build_parts-cells-y-requires t c =
-    (c.requires.0, entry (goal.at.build_parts-cells-y-requires t c).After-child-q _ c.requires.1)
+    (c.requires.0, cells_entry t (goal.at.build_parts-cells-y-requires t c).After-child-q _ c.requires.1)
 
 pub build_parts-suffix_costs-w-requires : goal.build_parts-suffix_costs-w-requires
 build_parts-suffix_costs-w-requires t c =
-    (c.requires.0, suffix-costs-entry (goal.at.build_parts-suffix_costs-w-requires t c).After-totals-x _ c.requires.1)
+    (c.requires.0, suffix-costs-entry t (goal.at.build_parts-suffix_costs-w-requires t c).After-totals-x _ c.requires.1)
 
 -- a part's measure is one less
 pub build_parts-build-b-requires : goal.build_parts-build-b-requires
 build_parts-build-b-requires t c =
-    (omega arith, (c.requires.0, build-entry (goal.at.build_parts-build-b-requires t c).After-suffix_costs-w _ c.requires.1))
+    (omega arith, (c.requires.0, build-entry t (goal.at.build_parts-build-b-requires t c).After-suffix_costs-w _ c.requires.1))
 
 -- one part more is built
 pub build_parts-loop-j-preserved : goal.build_parts-loop-j-preserved
@@ -365,9 +367,9 @@ build_parts-loop-j-preserved t c =
       omega (arith, c.loop-j.invariant.0),
       omega (arith, more),
       λ s h. in_parts_more h (c.loop-j.invariant.2 s h) more c.length-len.ensures c.loop-j.invariant.0
-          c.child-q.ensures (row (goal.at.build_parts-loop-j-preserved t c).After-totals-x s h) c.totals-x.ensures (first-is (goal.at.build_parts-loop-j-preserved t c).After-totals-x s h) (vector (goal.at.build_parts-loop-j-preserved t c).After-suffix_costs-w s h)
+          c.child-q.ensures (row t (goal.at.build_parts-loop-j-preserved t c).After-totals-x s h) c.totals-x.ensures (first-is t (goal.at.build_parts-loop-j-preserved t c).After-totals-x s h) (vector t (goal.at.build_parts-loop-j-preserved t c).After-suffix_costs-w s h)
           {rows'''' = c.build-b.new.rows} {then = c.build-b.new.tree}
-          (c.build-b.ensures s (build-entry (goal.at.build_parts-loop-j-preserved t c).After-suffix_costs-w s h)),
+          (c.build-b.ensures s (build-entry t (goal.at.build_parts-loop-j-preserved t c).After-suffix_costs-w s h)),
     )
 
 pub build_parts-shape_of-rows : goal.build_parts-shape_of-rows

@@ -86,12 +86,12 @@ passed-b-requires c =
 pub passed-c-requires : goal.passed-c-requires
 passed-c-requires c =
     let h = c.requires.1 in
-    (omega (arith, c.if-k-i.left), (_, suffix_from h _ 2 (omega arith) (one (goal.at.passed-c-requires c).After-passed-b _ h).sound))
+    (omega (arith, c.if-k-i.false), (_, suffix_from h _ 2 (omega arith) (one (goal.at.passed-c-requires c).After-passed-b _ h).sound))
 
 pub passed-d-requires : goal.passed-d-requires
 passed-d-requires c =
     let h = c.requires.1 in
-    (omega (arith, c.if-k-i.left), (_, suffix_from h _ 3 (omega arith) (two (goal.at.passed-d-requires c).After-passed-c _ h).sound))
+    (omega (arith, c.if-k-i.false), (_, suffix_from h _ 3 (omega arith) (two (goal.at.passed-d-requires c).After-passed-c _ h).sound))
 
 pub shape_of-rows : goal.shape_of-rows
 shape_of-rows c =

@@ -37,9 +37,8 @@ overflow_add-result c =
 -- the list is not read
 pub returns-in-Stuck : goal.returns-in-Stuck
 returns-in-Stuck c =
-    let enum_told = c.enum_told-1 in
     let refused = c.refused in
-    λ s list h n a. refused.ensures ∙ ap priced_of (sym (not_read s list (subst (BarsWalked s list) enum_told.given.1 h)))
+    λ s list h n a. refused.ensures ∙ ap priced_of (sym (not_read s list (subst (BarsWalked s list) c.in-Stuck.is h)))
 
 -- it is a tree
 pub returns-else-p-ne0 : goal.returns-else-p-ne0

@@ -19,7 +19,7 @@ entry : (c : After-pack_units-units) (s : Sheet) → (SheetHeld s c.args.grammar
     c.args.list.now ((take c.args.playing.bars (replicate 64 c.args.grammar.start))) (interval 0 20160) unread
 entry c s h =
     bars_entry h _ _ _ _ (c.pack_rules-rules.ensures _ h.grammar) (c.pack_units-units.ensures _ h.good.onsets h.playing)
-    (omega (arith, c.if-count-playing.left)) refl
+    (omega (arith, c.if-count-playing.false)) refl
 
 walked : (c : After-read_forest-w) (s : Sheet) → (SheetHeld s c.args.grammar c.args.playing)
     → BarsWalked s c.args.list.now c.read_forest-w.result
@@ -27,7 +27,7 @@ walked c s h =
     let entry-here : (s : Sheet) → (SheetHeld s c.args.grammar c.args.playing) → ForestPre s c.pack_rules-rules.result c.args.grammar.children c.pack_units-units.result
     c.args.list.now ((take c.args.playing.bars (replicate 64 c.args.grammar.start))) (interval 0 20160) unread =
     λ s h. bars_entry h _ _ _ _ (c.pack_rules-rules.ensures _ h.grammar) (c.pack_units-units.ensures _ h.good.onsets h.playing)
-    (omega (arith, c.if-count-playing.left)) refl in
+    (omega (arith, c.if-count-playing.false)) refl in
     bars_walked h _ ((take c.args.playing.bars (replicate 64 c.args.grammar.start))) refl c.read_forest-w.result (c.read_forest-w.ensures s (entry-here s h))
 
 pub overflow_mul-playing : goal.overflow_mul-playing

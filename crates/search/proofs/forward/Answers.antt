@@ -2,7 +2,6 @@ use mathlib.Core.Path.{refl, sym, ◌∙◌}
 use native.Mathlib.Omega.{arith}
 use Rattle.search.proofs.EnterSteps.{few_bars, bar_enter}
 use Rattle.search.proofs.CommitSteps.{forwarded_low, going_none, going_fill, going_committed, going_none_found, going_found}
-use Rattle.search.proofs.forward.Proof.Places.{is-bar, pass-entry, more, cut-vector, commit-entry, all-passed, last_entry}
 use Prim.Native.Nat.{◌+◌}
 use mathlib.Core.Path.{◌≡◌}
 use Rattle.sheet.specs.Sheet.{Sheet}
@@ -89,7 +88,7 @@ commit-entry : (c : Then-is_cut_point) (s : Sheet) → (let a = c.args in
     ForwardPre s a.plan.now a.units.now a.order.now a.rows.now a.tree.now a.roots.now a.vectors.now
     a.start a.count) → let a = c.args in
     let loop = c.loop-b in
-    CommitPre s a.plan.now a.units.now c.pass-w.last.1.1.0 loop.tree c.pass-w.last.1.1.1.0
+    CommitPre s a.plan.now a.units.now c.pass-w.new.rows loop.tree c.pass-w.new.roots
     loop.vectors a.start loop.done (loop.b + 1) loop.next
 commit-entry c s h =
     let is-bar-here : (s : Sheet) → (let a = c.args in
@@ -175,9 +174,9 @@ pub loop-b-preserved-then-is_cut_point : goal.loop-b-preserved-then-is_cut_point
 loop-b-preserved-then-is_cut_point c =
     let loop = c.loop-b in (
       omega (arith, c.loop-b-test.true),
-      c.pass-w.kept.1.1.1.0 ∙ loop.invariant.1,
-      c.commit-next.auto.1.1.1.1.0 ∙ loop.invariant.2,
-      c.commit-next.auto.1.1.1.0 ∙ loop.invariant.3,
+      c.pass-w.auto.roots ∙ loop.invariant.1,
+      c.commit-next.auto.vectors ∙ loop.invariant.2,
+      c.commit-next.auto.tree ∙ loop.invariant.3,
       λ s h. going_committed h (more (goal.at.loop-b-preserved-then-is_cut_point c).After-pass-w s h) (cut-vector (goal.at.loop-b-preserved-then-is_cut_point c).Then-is_cut_point s h) (c.commit-next.ensures s (commit-entry (goal.at.loop-b-preserved-then-is_cut_point c).Then-is_cut_point s h)),
     )
 
@@ -186,7 +185,7 @@ pub loop-b-preserved : goal.loop-b-preserved
 loop-b-preserved c =
     let loop = c.loop-b in (
       omega (arith, c.loop-b-test.true),
-      c.pass-w.auto.1.1.1.0 ∙ loop.invariant.1,
+      c.pass-w.auto.roots ∙ loop.invariant.1,
       loop.invariant.2,
       loop.invariant.3,
       λ s h. more (goal.at.loop-b-preserved c).After-pass-w s h,
@@ -218,11 +217,11 @@ commit-nodes-requires c =
 pub shape_of-rows : goal.shape_of-rows
 shape_of-rows c =
     let h = c.requires.1 in
-    c.commit-nodes.auto.1.1.0 ∙ (c.loop-b.invariant.4 _ h).forwarded.sound.size ∙ sym h.entry.sound.size
+    c.commit-nodes.auto.rows ∙ (c.loop-b.invariant.4 _ h).forwarded.sound.size ∙ sym h.entry.sound.size
 
 pub shape_of-tree : goal.shape_of-tree
 shape_of-tree c =
-    c.commit-nodes.auto.1.1.1.0 ∙ c.loop-b.invariant.3
+    c.commit-nodes.auto.tree ∙ c.loop-b.invariant.3
 
 pub shape_of-roots : goal.shape_of-roots
 shape_of-roots c =
@@ -230,7 +229,7 @@ shape_of-roots c =
 
 pub shape_of-vectors : goal.shape_of-vectors
 shape_of-vectors c =
-    c.commit-nodes.auto.1.1.1.1.0 ∙ c.loop-b.invariant.2
+    c.commit-nodes.auto.vectors ∙ c.loop-b.invariant.2
 
 -- all bars are committed
 pub returns : goal.returns

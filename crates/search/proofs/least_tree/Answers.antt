@@ -15,7 +15,7 @@ use Rattle.sizes.specs.Sizes.{lengths_of}
 use Rattle.sizes.specs.Held.{length_table}
 use Rattle.search.specs.Clauses.{row_cells, RowCellsPre, ParsePre, SearchPre}
 use Rattle.search.proofs.SearchSteps.{onsets_few, cells_few, cells_fit, cells_all, bars_are, parse_entry, lent_length, searched}
-use Rattle.search.proofs.least_tree.Goals.{After-most_in_bar, After-row_cells-cells, Start}
+use Rattle.search.proofs.least_tree.Goals.{After-row_cells-cells, Start}
 use Rattle.search.proofs.least_tree.Goals as goal
 
 -- that of the contract
@@ -24,7 +24,7 @@ asked : (c : Start) → (let a = c.args in
 asked c = (c.requires.1, c.requires.2)
 
 -- the cells of the rows may be counted
-counted : (c : After-most_in_bar) (s : Sheet) → (let a = c.args in
+counted : (c : After-row_cells-cells) (s : Sheet) → (let a = c.args in
     SearchPre s a.grammar a.playing a.tree.now a.work.now × (a.reached ≡ length_table (lengths_of s.grammar.rules)))
     → RowCellsPre s c.prepare.new.plan c.most_in_bar.result
 counted c s (h, lengths) = record {
@@ -41,10 +41,7 @@ cells_are c s h = c.row_cells-cells.ensures s (counted c s h)
 fit : (c : After-row_cells-cells) (s : Sheet) → (let a = c.args in
     SearchPre s a.grammar a.playing a.tree.now a.work.now × (a.reached ≡ length_table (lengths_of s.grammar.rules))) → c.row_cells-cells.result ≤ length (c.args.work.now)
 fit c s h =
-    let cells_are-here : (s : Sheet) → (let a = c.args in
-    SearchPre s a.grammar a.playing a.tree.now a.work.now × (a.reached ≡ length_table (lengths_of s.grammar.rules))) → c.row_cells-cells.result ≡ row_cells s =
-    λ s h. c.row_cells-cells.ensures s (counted c s h) in
-    cells_fit h.0 (cells_are-here s h)
+    cells_fit h.0 (cells_are c s h)
 
 -- so the tree may be searched in them
 entry : (c : After-row_cells-cells) (s : Sheet) → (let a = c.args in
@@ -52,15 +49,9 @@ entry : (c : After-row_cells-cells) (s : Sheet) → (let a = c.args in
     ParsePre s (c.prepare.new.plan) c.pack_units-units.result (take (c.row_cells-cells.result) (c.args.work.now)) a.tree.now
     a.grammar.start a.playing.bars
 entry c s h =
-    let cells_are-here : (s : Sheet) → (let a = c.args in
-    SearchPre s a.grammar a.playing a.tree.now a.work.now × (a.reached ≡ length_table (lengths_of s.grammar.rules))) → c.row_cells-cells.result ≡ row_cells s =
-    λ s h. c.row_cells-cells.ensures s (counted c s h) in
-    let fit-here : (s : Sheet) → (let a = c.args in
-    SearchPre s a.grammar a.playing a.tree.now a.work.now × (a.reached ≡ length_table (lengths_of s.grammar.rules))) → c.row_cells-cells.result ≤ length (c.args.work.now) =
-    λ s h. cells_fit h.0 (cells_are-here s h) in
     let held = h.0.held in
     let units = c.pack_units-units.ensures s.playing held.good.onsets held.playing in
-    parse_entry h.0 _ _ (c.row_cells-cells.result) _ _ (counted c s h).prepared units (cells_are-here s h) (fit-here s h) refl refl
+    parse_entry h.0 _ _ (c.row_cells-cells.result) _ _ (counted c s h).prepared units (cells_are c s h) (fit c s h) refl refl
 
 pub prepare-requires : goal.prepare-requires
 prepare-requires c =
@@ -76,7 +67,14 @@ most_in_bar-requires c =
 
 pub row_cells-cells-requires : goal.row_cells-cells-requires
 row_cells-cells-requires c =
-    (c.requires.0, counted (goal.at.row_cells-cells-requires c).After-most_in_bar _ (asked (goal.at.row_cells-cells-requires c).Start))
+    let h = c.requires.1 in (
+      c.requires.0,
+      record {
+        prepared = c.prepare.ensures _ h.held.good.rules h.held.grammar c.requires.2;
+        onsets = h.held.good.onsets;
+        most_is = c.most_in_bar.ensures.1 _ h.held.good.onsets h.held.playing;
+      },
+    )
 
 -- the front of the work slice is lent
 pub slice_bounds-parse-end : goal.slice_bounds-parse-end
@@ -103,7 +101,7 @@ pub clear-requires : goal.clear-requires
 clear-requires c =
     let h = c.requires.1 in
     let enough = fit (goal.at.clear-requires c).After-row_cells-cells _ (asked (goal.at.clear-requires c).Start) in
-    let same = lent_length h c.parse-found.new.rows (c.row_cells-cells.result) c.parse-found.auto.1.1.0 enough in
+    let same = lent_length h c.parse-found.new.rows (c.row_cells-cells.result) c.parse-found.auto.rows enough in
     omega (arith, same, cells_all h (cells_are (goal.at.clear-requires c).After-row_cells-cells _ (asked (goal.at.clear-requires c).Start)), h.work_size)
 
 pub returns : goal.returns
@@ -112,6 +110,6 @@ returns c =
     let rows = c.parse-found.new.rows in
     λ s h lengths.
     searched h _ rows _ cells (cells + 16 * c.args.playing.bars) _
-    (c.parse-found.ensures s (entry (goal.at.returns c).After-row_cells-cells s (h, lengths))) (fit (goal.at.returns c).After-row_cells-cells s (h, lengths)) c.parse-found.auto.1.1.0
+    (c.parse-found.ensures s (entry (goal.at.returns c).After-row_cells-cells s (h, lengths))) (fit (goal.at.returns c).After-row_cells-cells s (h, lengths)) c.parse-found.auto.rows
     (omega arith) (cells_all h (cells_are (goal.at.returns c).After-row_cells-cells s (h, lengths)))
     c.clear.ensures

@@ -9,7 +9,7 @@ use Rattle.search.proofs.bars.pass.Goals.{After-root_row-y}
 use Rattle.search.proofs.bars.pass.Goals as goal
 
 rooted : (c : After-root_row-y) (s : Sheet) → (let a = c.args in
-    PassPre s a.plan.now a.units.now a.rows.now a.bar a.start a.t7) → (RootsTo s c.args.roots.now c.args.bar.number 0)
+    PassPre s a.plan.now a.units.now a.rows.now a.bar a.start a.v) → (RootsTo s c.args.roots.now c.args.bar.number 0)
     → Rooted s c.root_row-y.new.rows c.args.bar.number c.loop-c.c c.root_row-y.result
 rooted c s h are = c.root_row-y.ensures s (pass_again h (c.loop-c.invariant.2 s h are).taken.sound)
 
