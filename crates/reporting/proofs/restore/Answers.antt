@@ -3,6 +3,5 @@ use Rattle.reporting.proofs.restore.Goals as goal
 
 pub returns-in-Line : goal.returns-in-Line
 returns-in-Line c =
-    let told = c.enum_told-in-Line-1 in
     let copy = c.copy in
-    rw told.given.1 copy.ensures
+    rw c.in-Line.is copy.ensures

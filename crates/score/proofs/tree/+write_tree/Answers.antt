@@ -9,19 +9,6 @@ use Rattle.score.proofs.TreeSteps.{rule_left, rule_small, leaf_here, division_he
 use Rattle.score.proofs.PartsSteps.{none_left, one_left, parts_none, part_entry, part_done, two_parts, part_shorter, parts_entry, division_done}
 use Rattle.score.proofs.tree.+write_tree.Goals as goal
 
--- ---- write_tree
-
-abbrev μ-write-tree : Measures 2 write-tree-kinds.ps ℕ
-μ-write-tree κs a = a.1.1.1.1.0.len.0
-
-abbrev write-tree-at : ℕ → In 2 write-tree-kinds.ps
-write-tree-at t =
-    and 2 write-tree-kinds.ps (is 2 write-tree-kinds.ps μ-write-tree t) write-tree.Pre
-
-abbrev write-tree-below : ℕ → In 2 write-tree-kinds.ps
-write-tree-below t =
-    and 2 write-tree-kinds.ps (falls 2 write-tree-kinds.ps ◌<◌ μ-write-tree t) write-tree.Pre
-
 pub bounds-list-at : goal.bounds-list-at
 bounds-list-at t c = let h = c.requires.3 in rule_left h
 
@@ -36,17 +23,15 @@ overflow_add-next t c = let h = c.requires.3 in let f = rule_left h in search ru
 
 pub write_leaf-requires : goal.write_leaf-requires
 write_leaf-requires t c =
-    let rule = c.rule-1 in
     let rule_at_lem = c.rule_at-rule in
     let h = c.requires.3 in
-    (c.requires.0, leaf_entry h (leaf_here h _ _ _ _ rule_at_lem.ensures rule.given.1))
+    (c.requires.0, leaf_entry h (leaf_here h _ _ _ _ rule_at_lem.ensures c.in-Leaf.is))
 
 pub nonzero_div-len : goal.nonzero_div-len
 nonzero_div-len t c =
-    let rule2 = c.rule-in-Division-1 in
     let rule_at_lem = c.rule_at-rule in
     let h = c.requires.3 in
-    let d = division_here h _ _ _ _ rule_at_lem.ensures rule2.given.1 in
+    let d = division_here h _ _ _ _ rule_at_lem.ensures c.in-Division.is in
     let f = two_parts h d.1 d.2 in
     search rules
 
@@ -57,10 +42,9 @@ pub write_tree-further-requires : goal.write_tree-further-requires
 write_tree-further-requires t c =
     let loop-test = c.loop-j-test in
     let loop = c.loop-j in
-    let rule2 = c.rule-in-Division-1 in
     let rule_at_lem = c.rule_at-rule in
     let h = c.requires.3 in
-    let d = division_here h _ _ _ _ rule_at_lem.ensures rule2.given.1 in
+    let d = division_here h _ _ _ _ rule_at_lem.ensures c.in-Division.is in
     let g = parts_entry h d.1 d.2 in
     let u = loop.invariant.3 _ _ d.0 d.1 g in (
       omega (arith, part_shorter h d.1 d.2),
@@ -71,10 +55,9 @@ pub overflow_add-left : goal.overflow_add-left
 overflow_add-left t c =
     let loop-test = c.loop-j-test in
     let loop = c.loop-j in
-    let rule2 = c.rule-in-Division-1 in
     let rule_at_lem = c.rule_at-rule in
     let h = c.requires.3 in
-    let d = division_here h _ _ _ _ rule_at_lem.ensures rule2.given.1 in
+    let d = division_here h _ _ _ _ rule_at_lem.ensures c.in-Division.is in
     let g = parts_entry h d.1 d.2 in
     let u = loop.invariant.3 _ _ d.0 d.1 g in
     let b = (part_entry g loop.j (omega (arith, loop-test.true, d.1)) loop.left loop.invariant.1 _ _ u).in_bar_lem in
@@ -98,10 +81,9 @@ loop-j-preserved t c =
 pub returns-in-Leaf : goal.returns-in-Leaf
 returns-in-Leaf t c =
     let write-leaf = c.write_leaf in
-    let rule = c.rule-1 in
     let rule_at_lem = c.rule_at-rule in
-    λ s q rest h. leaf_done h (leaf_here h _ _ _ _ rule_at_lem.ensures rule.given.1) _ _
-    (write-leaf.ensures s (leaf_entry h (leaf_here h _ _ _ _ rule_at_lem.ensures rule.given.1)))
+    λ s q rest h. leaf_done h (leaf_here h _ _ _ _ rule_at_lem.ensures c.in-Leaf.is) _ _
+    (write-leaf.ensures s (leaf_entry h (leaf_here h _ _ _ _ rule_at_lem.ensures c.in-Leaf.is)))
 
 pub shape_of-score-after-loop-j : goal.shape_of-score-after-loop-j
 shape_of-score-after-loop-j t c = c.loop-j.invariant.2
@@ -109,8 +91,7 @@ shape_of-score-after-loop-j t c = c.loop-j.invariant.2
 pub returns-after-loop-j : goal.returns-after-loop-j
 returns-after-loop-j t c =
     let loop = c.loop-j in
-    let rule2 = c.rule-in-Division-1 in
     let rule_at_lem = c.rule_at-rule in
     λ s q rest h.
-    let d = division_here h _ _ _ _ rule_at_lem.ensures rule2.given.1 in
+    let d = division_here h _ _ _ _ rule_at_lem.ensures c.in-Division.is in
     division_done h d.1 d.2 loop.j _ _ (loop.invariant.3 _ _ d.0 d.1 (parts_entry h d.1 d.2)) (omega arith)
