@@ -1,7 +1,9 @@
-// The input of programs that run cases: a case starts with a line that begins with # and names it, and ends before the next #.
+// What the programs read and print, and the input of those that run cases: a case starts with a line that begins with # and names it, and
+// ends before the next #.
 #![tactic(auto)]
 
-ghost use Rattle.std.specs.Prelude.{◌≡◌, ◌+◌, ◌≤◌, ◌<◌, min, length, IfOk};
+ghost use Rattle.std.specs.Prelude.{◌≡◌, ◌+◌, ◌≤◌, ◌<◌, min, length, take, IfOk};
+ghost use Rattle.std.specs.Io.KnownBytes.{Consumes, IsAtEnd};
 
 use std::io;
 use std::io::Read;
@@ -32,6 +34,8 @@ pub fn fill_from(s: &mut [u8], at: usize, b: u8)
 // Reads until the slice is full or the input ends; gives how many bytes were read, which stand at the front of the slice.
 pub fn read_full<R: Read>(input: &mut R, s: &mut [u8]) -> io::Result<usize>
     ensures within { IfOk result (λ n. n ≤ length s.new) }
+    ensures bytes { IfOk result (λ n. Consumes (R.remaining input.old) (R.remaining input.new) (take n s.new)) }
+    ensures all { IfOk result (λ n. n < length s.new → IsAtEnd (R.remaining input.new)) }
     ensures kept { length s.new ≡ length s.old }
 {
     let mut done: usize = 0;

@@ -1,5 +1,5 @@
 -- What the entry shows stands in the score slice. Assumes nothing of its own.
-use Rattle.std.proofs.Common.{rules, sym, length-take-le}
+use Rattle.std.proofs.Common.{sym, length-take-le}
 use Rattle.reporting.specs.ReportingLaws.{score_fits}
 use Rattle.rhythm.proofs.main.Goals as goal
 
