@@ -4,10 +4,11 @@
 // print.
 #![tactic(auto)]
 
-ghost use Rattle.std.specs.Prelude.{◌≡◌, ◌≤◌, length};
+ghost use Rattle.std.specs.Prelude.{◌≡◌, ◌≤◌, length, IfOk};
 
-use case_text::{behind, fill_from, least, place_of, print, print_front, wide};
+use case_text::{behind, fill_from, least, place_of, print, print_front, read_full, wide};
 use reporting::{REFUSAL_LINE_BYTES, RefusalLine, SCORE_BYTES, Shown, TREE_BYTES_MOST, WORK_CELLS};
+use std::io;
 
 // How `find` is run: what fills the slices, and how many bytes and cells are lent.
 #[derive(Clone, Copy)]
@@ -80,118 +81,158 @@ fn zeros_before(s: &[u64], n: usize) -> usize
     i
 }
 
-fn print_answer(p: pricing::Priced) {
+fn print_answer(rt: &impl Print, p: pricing::Priced) -> io::Result<()> {
     print(
+        rt,
         b"\n  number, line, nodes",
         p.number as u64,
         p.line as u64,
         p.nodes as u64,
-    );
-    print(b"; R, D, total", p.weight, p.distance, p.total);
+    )?;
+    print(rt, b"; R, D, total", p.weight, p.distance, p.total)
 }
 
 // Prints a tree of so many bytes, and how many bytes behind it hold the fill, in the lent slice and behind that.
-fn print_tree(tree: &[u8], nodes: usize, room: usize, fill: u8, page: &mut [u8])
+fn print_tree(
+    rt: &impl Print,
+    tree: &[u8],
+    nodes: usize,
+    room: usize,
+    fill: u8,
+    page: &mut [u8],
+) -> io::Result<()>
     requires { room ≤ length tree.now }
 {
     let end = least(nodes, room);
     print(
+        rt,
         b"\n  tree: bytes, kept behind them, behind the slice",
         end as u64,
         bytes_with(&tree[end..room], fill),
         bytes_with(&tree[room..], fill),
-    );
-    io::write_all(1, b"\n  ");
+    )?;
+    rt.write_all(b"\n  ")?;
     let stop = hextext::write_line(&tree[..end], page, 0);
-    print_front(page, stop);
+    print_front(rt, page, stop)
 }
 
 // Prints how many cells are 0 at the front of the lent slice, and how many hold the fill behind these and behind the slice.
-fn print_work(work: &[u64], room: usize, fill: u64)
+fn print_work(rt: &impl Print, work: &[u64], room: usize, fill: u64) -> io::Result<()>
     requires { room ≤ length work.now }
 {
     let zeros = zeros_before(work, room);
     print(
+        rt,
         b"  work: zeros, kept behind them, behind the slice",
         zeros as u64,
         cells_with(&work[zeros..room], fill),
         cells_with(&work[room..], fill),
-    );
-    io::write_all(1, b"\n");
+    )?;
+    rt.write_all(b"\n")
 }
 
 // Finds a tree with parts of two slices that are filled beforehand, and prints the answer and the slices.
-fn print_found(text: &[u8], tree: &mut [u8], work: &mut [u64], page: &mut [u8], how: Setting) {
+fn print_found(
+    rt: &impl Print,
+    text: &[u8],
+    tree: &mut [u8],
+    work: &mut [u64],
+    page: &mut [u8],
+    how: Setting,
+) -> io::Result<()> {
     let bytes = least(how.bytes, tree.len());
     let cells = least(how.cells, work.len());
     fill_from(tree, 0, how.byte);
     fill_cells(work, how.cell);
     let p = finding::find(text, &mut tree[..bytes], &mut work[..cells]);
-    print_answer(p);
-    print_tree(tree, p.nodes, bytes, how.byte, page);
-    print_work(work, cells, how.cell);
+    print_answer(rt, p)?;
+    print_tree(rt, tree, p.nodes, bytes, how.byte, page)?;
+    print_work(rt, work, cells, how.cell)
 }
 
 // The line is taken as an array, whose length is known even after a call that stored it.
-fn print_line(line: &RefusalLine) {
-    io::write_all(1, line);
+fn print_line(rt: &impl Print, line: &RefusalLine) -> io::Result<()> {
+    rt.write_all(line)
 }
 
 // Prints what the program would print: the entry behind it is called with slices of zeros.
-fn print_report(text: &[u8], tree: &mut [u8], work: &mut [u64], score: &mut [u8]) {
+fn print_report(
+    rt: &impl Print,
+    text: &[u8],
+    tree: &mut [u8],
+    work: &mut [u64],
+    score: &mut [u8],
+) -> io::Result<()> {
     fill_from(tree, 0, 0);
     fill_cells(work, 0);
     fill_from(score, 0, 0);
     let mut line = [0u8; REFUSAL_LINE_BYTES];
     let shown = reporting::report(text, work, tree, score, &mut line);
-    io::write_all(1, b"\n");
+    rt.write_all(b"\n")?;
     match shown {
-        Shown::Line => {
-            print_line(&line);
-        }
-        Shown::Score { bytes } => {
-            print_front(score, bytes);
-        }
+        Shown::Line => print_line(rt, &line),
+        Shown::Score { bytes } => print_front(rt, score, bytes),
     }
 }
 
 // Runs a case as its second line says.
-fn print_case(text: &[u8], line: [u8; 7], tree: &mut [u8], work: &mut [u64], page: &mut [u8]) {
+fn print_case(
+    rt: &impl Print,
+    text: &[u8],
+    line: [u8; 7],
+    tree: &mut [u8],
+    work: &mut [u64],
+    page: &mut [u8],
+) -> io::Result<()> {
     if line[0] == 0x52 {
-        print_report(text, tree, work, page);
+        print_report(rt, text, tree, work, page)
     } else {
-        print_found(text, tree, work, page, setting_of(line));
+        print_found(rt, text, tree, work, page, setting_of(line))
     }
 }
 
 // Runs the case whose lines start at place `from` of the input; gives the place behind it.
-fn run_case(s: &[u8], from: usize, tree: &mut [u8], work: &mut [u64], page: &mut [u8]) -> usize
+fn run_case(
+    rt: &impl Print,
+    s: &[u8],
+    from: usize,
+    tree: &mut [u8],
+    work: &mut [u64],
+    page: &mut [u8],
+) -> io::Result<usize>
     requires { from ≤ length s.now }
-    ensures { (from ≤ result) × (result ≤ length s.now) }
+    ensures { IfOk result (λ stop. (from ≤ stop) × (stop ≤ length s.now)) }
 {
     let mut line = [0u8; 7];
     let next = hextext::next_line(s, from, &mut line).next;
     let start = least(next, s.len());
     let stop = place_of(s, start, b'#');
-    print_case(&s[start..stop], line, tree, work, page);
-    stop
+    print_case(rt, &s[start..stop], line, tree, work, page)?;
+    Ok(stop)
 }
 
 // Each case of the input.
-fn run(s: &[u8], tree: &mut [u8], work: &mut [u64], page: &mut [u8]) {
+fn run(
+    rt: &impl Print,
+    s: &[u8],
+    tree: &mut [u8],
+    work: &mut [u64],
+    page: &mut [u8],
+) -> io::Result<()> {
     let mut at = place_of(s, 0, b'#');
     while at < s.len() {
         let end = place_of(s, at, b'\n');
-        io::write_all(1, &s[at..end]);
-        at = run_case(s, behind(s, end), tree, work, page);
+        rt.write_all(&s[at..end])?;
+        at = run_case(rt, s, behind(s, end), tree, work, page)?;
     }
+    Ok(())
 }
 
-fn main() {
+fn main(rt: HostRuntime) -> io::Result<()> {
     let mut input = [0u8; 131072];
     let mut tree = [0u8; TREE_BYTES_MOST];
     let mut work = [0u64; WORK_CELLS];
     let mut page = [0u8; SCORE_BYTES];
-    let n = io::read_full(0, &mut input);
-    run(&input[..n], &mut tree, &mut work, &mut page);
+    let n = read_full(&mut rt.stdin(), &mut input)?;
+    run(&rt, &input[..n], &mut tree, &mut work, &mut page)
 }

@@ -6,11 +6,12 @@
 
 ghost use Rattle.std.specs.Prelude.{◌≡◌, length};
 
-use case_text::{behind, least, place_of, print_front, wide};
+use case_text::{behind, least, place_of, print_front, read_full, wide};
 use expansions::{PackedRules, PackedUnits, pack_rules, pack_units, unpacked};
 use items::{ITEMS_MOST, Place, is_allowed, move_at, next_item, place_behind};
 use sheet::{BAR_UNITS, Children, ONSETS_MOST, RULES_MOST, Reading, Units};
 use sizes::TREE_BYTES_MOST;
+use std::io;
 use tally::{NONE, Tally, gone_wrong, print_tally, with_list};
 
 mod items;
@@ -88,41 +89,54 @@ fn list_all<'a>(text: &'a [u8], sheet: Reading, found: &'a [u8], list: &mut [u8]
 }
 
 // Prints the bytes of a tree, if there are any, and closes the line.
-fn print_tree(tree: &[u8], page: &mut [u8]) {
+fn print_tree(rt: &impl Print, tree: &[u8], page: &mut [u8]) -> io::Result<()> {
     if tree.len() != 0 {
-        io::write_all(1, b" ");
+        rt.write_all(b" ")?;
     }
     let stop = hextext::write_line(tree, page, 0);
-    print_front(page, stop);
+    print_front(rt, page, stop)
 }
 
 // Finds the first least tree of a sheet, lists all its trees and prints the comparison.
-fn compare(text: &[u8], tree: &mut [u8], work: &mut [u64], list: &mut [u8]) {
+fn compare(
+    rt: &impl Print,
+    text: &[u8],
+    tree: &mut [u8],
+    work: &mut [u64],
+    list: &mut [u8],
+) -> io::Result<()> {
     let f = finding::find(text, tree, work);
     let nodes = least(f.nodes, tree.len());
     let t = list_all(text, reading::read(text), &tree[..nodes], list);
-    print_tally(t, f);
-    print_tree(&tree[..nodes], list);
+    print_tally(rt, t, f)?;
+    print_tree(rt, &tree[..nodes], list)
 }
 
 // Each sheet of the input: it starts behind a line that begins with # and names it, and ends before the next #.
-fn run(s: &[u8], tree: &mut [u8], work: &mut [u64], list: &mut [u8]) {
+fn run(
+    rt: &impl Print,
+    s: &[u8],
+    tree: &mut [u8],
+    work: &mut [u64],
+    list: &mut [u8],
+) -> io::Result<()> {
     let mut at = place_of(s, 0, b'#');
     while at < s.len() {
         let end = place_of(s, at, b'\n');
         let start = behind(s, end);
         let stop = place_of(s, start, b'#');
-        io::write_all(1, &s[at..end]);
-        compare(&s[start..stop], tree, work, list);
+        rt.write_all(&s[at..end])?;
+        compare(rt, &s[start..stop], tree, work, list)?;
         at = stop;
     }
+    Ok(())
 }
 
-fn main() {
+fn main(rt: HostRuntime) -> io::Result<()> {
     let mut input = [0u8; 65536];
     let mut tree = [0u8; TREE_BYTES_MOST];
     let mut work = [0u64; 8192];
     let mut list = [0u8; TREE_BYTES_MOST];
-    let n = io::read_full(0, &mut input);
-    run(&input[..n], &mut tree, &mut work, &mut list);
+    let n = read_full(&mut rt.stdin(), &mut input)?;
+    run(&rt, &input[..n], &mut tree, &mut work, &mut list)
 }

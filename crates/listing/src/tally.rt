@@ -1,5 +1,6 @@
 // What the listing of a sheet's trees has come to, and whether finding gave the same.
 use pricing::Priced;
+use std::io;
 
 // What the listing has come to: the number of trees; the least total, NONE where there is none yet, how many trees have it, and whether the
 // first of these is the tree that finding gave; and how many lists went wrong: they were refused by pricing, or longer than any tree.
@@ -96,20 +97,16 @@ fn agree(t: Tally, f: Priced) -> bool {
     t.first_found
 }
 
-pub fn print_tally(t: Tally, f: Priced) {
-    io::write_all(1, b": trees ");
-    io::print_decimal(1, t.trees);
+pub fn print_tally(rt: &impl Print, t: Tally, f: Priced) -> io::Result<()> {
+    print!(rt; ": trees {}", t.trees)?;
     if t.trees == 0 {
-        io::write_all(1, b", none");
+        rt.write_all(b", none")?;
     } else {
-        io::write_all(1, b", least ");
-        io::print_decimal(1, t.equals);
-        io::write_all(1, b" of total ");
-        io::print_decimal(1, t.least);
+        print!(rt; ", least {} of total {}", t.equals, t.least)?;
     }
     if agree(t, f) {
-        io::write_all(1, b", same");
+        rt.write_all(b", same")
     } else {
-        io::write_all(1, b", DIFFERENT");
+        rt.write_all(b", DIFFERENT")
     }
 }

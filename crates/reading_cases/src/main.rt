@@ -2,8 +2,9 @@
 // names it, and ends before the next #.
 #![tactic(auto)]
 
-use case_text::{behind, place_of, print};
+use case_text::{behind, place_of, print, read_full};
 use sheet::{BAR_LINES_MOST, ONSETS_MOST, PlayingTable, Reading, TimingTable};
+use std::io;
 
 fn wide(b: u8) -> u64 {
     b as u64
@@ -27,7 +28,7 @@ fn moment_at(timing: TimingTable, i: usize) -> u64 {
 }
 
 // The first four bar lines and the last, each with the length of its bar. The last has none: the place behind it holds 0.
-fn print_bar_lines(bars: u8, timing: TimingTable) {
+fn print_bar_lines(rt: &impl Print, bars: u8, timing: TimingTable) -> io::Result<()> {
     let last = bars as usize;
     let mut i: usize = 0;
     while i < BAR_LINES_MOST {
@@ -36,18 +37,20 @@ fn print_bar_lines(bars: u8, timing: TimingTable) {
             let moment = moment_at(timing, i);
             let next = moment_at(timing, i + 1);
             print(
+                rt,
                 b"\n  bar line: place, moment, length",
                 i as u64,
                 moment,
                 length(moment, next),
-            );
+            )?;
         }
         i += 1;
     }
+    Ok(())
 }
 
 // The first four onsets and the last.
-fn print_onsets(p: PlayingTable) {
+fn print_onsets(rt: &impl Print, p: PlayingTable) -> io::Result<()> {
     let count = p.count;
     let mut i: usize = 0;
     while i < ONSETS_MOST {
@@ -55,62 +58,68 @@ fn print_onsets(p: PlayingTable) {
         if i < count && shown {
             let unit = p.units[i];
             print(
+                rt,
                 b"\n  onset: place, unit, pitch",
                 i as u64,
                 unit.0 as u64,
                 wide(p.pitches[i]),
-            );
+            )?;
         }
         i += 1;
     }
+    Ok(())
 }
 
-fn print_outcome(r: Reading) {
+fn print_outcome(rt: &impl Print, r: Reading) -> io::Result<()> {
     let grammar = r.grammar;
     let playing = r.playing;
     let timing = r.timing;
     let number = r.number;
     let bars = playing.bars;
     print(
+        rt,
         b"\n  number, line, last bar line",
         number as u64,
         r.line as u64,
         moment_at(timing, bars as usize),
-    );
+    )?;
     print(
+        rt,
         b"; nonterminals, start, multiplier",
         grammar.nonterminals as u64,
         grammar.start as u64,
         grammar.multiplier as u64,
-    );
+    )?;
     print(
+        rt,
         b"; rules, bars, onsets",
         grammar.count as u64,
         bars as u64,
         playing.count as u64,
-    );
+    )?;
     if number == 0 {
-        print_bar_lines(bars, timing);
+        print_bar_lines(rt, bars, timing)?;
     }
-    print_onsets(playing);
-    io::write_all(1, b"\n");
+    print_onsets(rt, playing)?;
+    rt.write_all(b"\n")
 }
 
 // Each text of the input.
-fn run(s: &[u8]) {
+fn run(rt: &impl Print, s: &[u8]) -> io::Result<()> {
     let mut at = place_of(s, 0, b'#');
     while at < s.len() {
         let end = place_of(s, at, b'\n');
         let start = behind(s, end);
         let stop = place_of(s, start, b'#');
-        io::write_all(1, &s[at..end]);
-        print_outcome(reading::read(&s[start..stop]));
+        rt.write_all(&s[at..end])?;
+        print_outcome(rt, reading::read(&s[start..stop]))?;
         at = stop;
     }
+    Ok(())
 }
 
-fn main() {
+fn main(rt: HostRuntime) -> io::Result<()> {
     let mut input = [0u8; 65536];
-    let n = io::read_full(0, &mut input);
-    run(&input[..n]);
+    let n = read_full(&mut rt.stdin(), &mut input)?;
+    run(&rt, &input[..n])
 }

@@ -3,9 +3,10 @@
 // bytes for the slice's length and four for the list's; where that is more than the list has, zeros follow.
 #![tactic(auto)]
 
-ghost use Rattle.std.specs.Prelude.{◌≡◌, ◌≤◌, length};
+ghost use Rattle.std.specs.Prelude.{◌≡◌, ◌≤◌, length, IfOk};
 
-use case_text::{behind, fill_from, least, place_of, print, wide};
+use case_text::{behind, fill_from, least, place_of, print, read_full, wide};
+use std::io;
 
 // How a case is run.
 #[derive(Clone, Copy)]
@@ -36,61 +37,81 @@ fn sum_from(s: &[u8], at: usize) -> usize {
     sum
 }
 
-fn print_price(text: &[u8], list: &[u8]) {
+fn print_price(rt: &impl Print, text: &[u8], list: &[u8]) -> io::Result<()> {
     let p = pricing::price(text, list);
     print(
+        rt,
         b"\n  price: number, line, nodes",
         p.number as u64,
         p.line as u64,
         p.nodes as u64,
-    );
-    print(b"; R, D, total", p.weight, p.distance, p.total);
+    )?;
+    print(rt, b"; R, D, total", p.weight, p.distance, p.total)
 }
 
 // Prints a text of `bytes` bytes in the front of a score, and the sums of the bytes behind it in the first `room` and behind these.
-fn print_text(score: &[u8], bytes: usize, room: usize)
+fn print_text(rt: &impl Print, score: &[u8], bytes: usize, room: usize) -> io::Result<()>
     requires { room ≤ length score.now }
 {
     let end = least(bytes, room);
-    io::write_all(1, b"; sums behind the text and behind the slice ");
-    io::print_decimal(1, sum_from(&score[..room], end) as u64);
-    io::write_all(1, b" ");
-    io::print_decimal(1, sum_from(score, room) as u64);
-    io::write_all(1, b"\n");
-    io::write_all(1, &score[..end]);
+    let behind_text = sum_from(&score[..room], end);
+    let behind_slice = sum_from(score, room);
+    println!(rt; "; sums behind the text and behind the slice {behind_text} {behind_slice}")?;
+    rt.write_all(&score[..end])
 }
 
 // Writes the score into the first `room` bytes of a slice that holds one byte throughout, and prints the answer and the slice.
-fn print_score(text: &[u8], list: &[u8], score: &mut [u8], room: usize, fill: u8)
+fn print_score(
+    rt: &impl Print,
+    text: &[u8],
+    list: &[u8],
+    score: &mut [u8],
+    room: usize,
+    fill: u8,
+) -> io::Result<()>
     requires { room ≤ length score.old }
     ensures { length score.new ≡ length score.old }
 {
     fill_from(score, 0, fill);
     let w = score::write(text, list, &mut score[..room]);
     print(
+        rt,
         b"\n  score: number, line, bytes",
         w.number as u64,
         w.line as u64,
         w.bytes as u64,
-    );
-    print_text(score, w.bytes, room);
+    )?;
+    print_text(rt, score, w.bytes, room)
 }
 
 // Prices a list and writes its score.
-fn print_case(text: &[u8], list: &[u8], score: &mut [u8], how: Setting)
+fn print_case(
+    rt: &impl Print,
+    text: &[u8],
+    list: &[u8],
+    score: &mut [u8],
+    how: Setting,
+) -> io::Result<()>
     ensures { length score.new ≡ length score.old }
 {
     let length = least(how.length, list.len());
     let room = least(how.room, score.len());
-    print_price(text, &list[..length]);
-    print_score(text, &list[..length], score, room, how.fill);
+    print_price(rt, text, &list[..length])?;
+    print_score(rt, text, &list[..length], score, room, how.fill)
 }
 
 // Runs the case whose lines start at place `from` of the input; gives the place behind it.
-fn run_case(s: &[u8], from: usize, list: &mut [u8], score: &mut [u8]) -> usize
+fn run_case(
+    rt: &impl Print,
+    s: &[u8],
+    from: usize,
+    list: &mut [u8],
+    score: &mut [u8],
+) -> io::Result<usize>
     requires { from ≤ length s.now }
-    ensures { (from ≤ result) × (result ≤ length s.now) × (length list.new ≡ length list.old)
-        × (length score.new ≡ length score.old) }
+    ensures place { IfOk result (λ stop. (from ≤ stop) × (stop ≤ length s.now)) }
+    ensures list_kept { length list.new ≡ length list.old }
+    ensures score_kept { length score.new ≡ length score.old }
 {
     let bytes = hextext::next_line(s, from, list);
     let mut line = [0u8; 7];
@@ -98,24 +119,25 @@ fn run_case(s: &[u8], from: usize, list: &mut [u8], score: &mut [u8]) -> usize
     fill_from(list, bytes.count, 0);
     let start = least(next, s.len());
     let stop = place_of(s, start, b'#');
-    print_case(&s[start..stop], &list[..], score, setting_of(line));
-    stop
+    print_case(rt, &s[start..stop], &list[..], score, setting_of(line))?;
+    Ok(stop)
 }
 
 // Each case of the input.
-fn run(s: &[u8], list: &mut [u8], score: &mut [u8]) {
+fn run(rt: &impl Print, s: &[u8], list: &mut [u8], score: &mut [u8]) -> io::Result<()> {
     let mut at = place_of(s, 0, b'#');
     while at < s.len() {
         let end = place_of(s, at, b'\n');
-        io::write_all(1, &s[at..end]);
-        at = run_case(s, behind(s, end), list, score);
+        rt.write_all(&s[at..end])?;
+        at = run_case(rt, s, behind(s, end), list, score)?;
     }
+    Ok(())
 }
 
-fn main() {
+fn main(rt: HostRuntime) -> io::Result<()> {
     let mut input = [0u8; 65536];
     let mut list = [0u8; 100000];
     let mut score = [0u8; 4096];
-    let n = io::read_full(0, &mut input);
-    run(&input[..n], &mut list, &mut score);
+    let n = read_full(&mut rt.stdin(), &mut input)?;
+    run(&rt, &input[..n], &mut list, &mut score)
 }
