@@ -1,4 +1,4 @@
-/* The rhythm parser's library, for C and C++. Link the static library cabi (`rt staticlib cabi`).
+/* The rhythm parser's library, for C and C++. Link the static library cabi (`rt lib` in crates/cabi makes it, crates/cabi/out/libcabi.a).
 
    Every entry takes every text and every slice, of any length and content, checks the text itself, and returns. A text or a slice is a
    pointer to its first element and the number of its elements; where that number is 0 the pointer is not read but must not be null. Slices
@@ -15,7 +15,7 @@
 #include <stdint.h>
 
 /* The most bytes that an accepted text has, and that the score text of any valid tree has: 53 + 19 for each leaf + 2 for each onset, where
-   a tree has at most B + 80 * N bytes, B bars and N onsets being at most 64 and 512 (score-length and nodes-most in docs/PROOF.md). */
+   a tree has at most B + 80 * N bytes, B bars and N onsets being at most 64 and 512 (score_length and nodes_most in docs/PROOF.md). */
 #define RHYTHM_TEXT_MOST 16384
 #define RHYTHM_SCORE_MOST 780533
 
@@ -57,7 +57,7 @@ void rhythm_write(const uint8_t *text, size_t text_length, const uint8_t *list, 
    0: the first `node count` bytes of the tree slice are a valid tree, the figures are its own, and no valid tree of the sheet totals less.
    Bytes behind them are kept. Of several trees with that total it is the first in dictionary order: where two first differ, the one with
    the lower rule number. So one call has one answer, whatever build gives it. Of texts that differ in the digits of the multiplier alone
-   all have a tree or none has; as it grows R does not rise and D does not fall (find-slides-by-text in docs/PROOF.md).
+   all have a tree or none has; as it grows R does not rise and D does not fall (find_slides_by_text in docs/PROOF.md).
    9, 10: the work slice, the tree slice is shorter than required. 11: no list of bytes, of any length, is a valid tree.
    After 0 and 11 the required cells at the front of the work slice are 0; what they hold before the call does not matter. Cells behind them
    are kept. */
