@@ -10,8 +10,8 @@ use lib.Seq.{get_or-take, length-take-le, ext_get_or}
 use Rattle.slices.specs.Filled.{Filled}
 use Rattle.sheet.specs.Sheet.{Timing, bar_units, unit_of, line_at, lasting, end_of, unit_within, unit_in, even_lines}
 use Rattle.sheet.specs.Clock.{first_past_end}
-use Rattle.sheet.specs.BarLines.{rises, lines_up, share_most, unit_at_lem}
-use Rattle.sheet.specs.EvenLines.{even_count, even_at}
+use Rattle.sheet.proofs.BarLines.{rises, lines_up, share_most, unit_at_lem}
+use Rattle.sheet.proofs.EvenLines.{even_count, even_at}
 use Rattle.bar_lines.specs.declared.clock.Clock.{Clock}
 use Rattle.bar_lines.specs.Lines.{lines_in, GoodLines, LinesOf, BarFound, BarSearched, ClockOf, Reached}
 

@@ -1,2 +1,3 @@
 pub mod Cells
 pub mod TapLoop
+pub mod StepSteps

@@ -23,7 +23,7 @@ use Rattle.sheet.specs.Held.{LineHeld, no_grammar}
 use Rattle.sheet.specs.Good.{GoodSteps, GoodTiming}
 use Rattle.sheet.specs.Laws.{end_in_taps}
 use Rattle.sheet.specs.PlayingLaws.{tap_line_lem}
-use Rattle.sheet.specs.GoodBars.{line_small, no_steps, steps_more}
+use Rattle.sheet.proofs.GoodBars.{line_small, no_steps, steps_more}
 use Rattle.bar_lines.specs.Lines.{lines_in, TapRefused, BarsRead}
 
 -- a line where a tap is to stand, by its kind, its count and its step

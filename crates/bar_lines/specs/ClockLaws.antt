@@ -3,8 +3,8 @@ use Rattle.std.specs.Prelude.{ℕ, ◌+◌, ◌-◌, ◌*◌, ◌≤◌, ◌<◌
 use Rattle.std.proofs.Common.{sym, ap, ◌∙◌, inl, inr, arith, mul-le-mul_right}
 use Rattle.std.proofs.Math.Decide.{dec_le}
 use Rattle.sheet.specs.Sheet.{Timing, bar_units, unit_of, line_at, end_of, unit_in, bar_of}
-use Rattle.sheet.specs.BarLines.{Rising, InBar, rises, lines_up, bar_of_lem, unit_at_lem, unit_before, share_most, end_not_reached}
-use Rattle.sheet.specs.EvenLines.{even_at, even_unit}
+use Rattle.sheet.proofs.BarLines.{Rising, InBar, rises, lines_up, bar_of_lem, unit_at_lem, unit_before, share_most, end_not_reached}
+use Rattle.sheet.proofs.EvenLines.{even_at, even_unit}
 use Rattle.bar_lines.specs.declared.clock.Clock.{Clock}
 use Rattle.bar_lines.specs.Lines.{lines_in, ClockOf, Reached}
 

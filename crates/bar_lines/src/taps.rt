@@ -32,6 +32,7 @@ fn refused_bars(number: u8, line: usize, at: usize) -> Bars
 }
 
 // The refusal of a step from one tap to the next; 0: none. A moment that falls is compared before it is subtracted from.
+#[tactic(auto, using(crate::proofs::StepSteps::step_falls, crate::proofs::StepSteps::step_near, crate::proofs::StepSteps::step_far, crate::proofs::StepSteps::step_within))]
 fn step_refusal(before: Micros, moment: Micros) -> u8
     ensures { result ≡ step_refusal before.0 moment.0 }
 {

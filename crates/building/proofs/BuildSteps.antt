@@ -17,7 +17,7 @@ use Rattle.derivations.specs.First.{first_nil}
 use Rattle.trees.specs.Instance.{onsets_in, late_count, at_leaf, instance_of}
 use Rattle.trees.specs.LeastTotal.{NONE}
 use Rattle.trees.specs.Expansions.{Step, step_of, may_divide_lem}
-use Rattle.trees.specs.Room.{room_pays, good_division}
+use Rattle.trees.proofs.RoomLaws.{room_pays, good_division}
 use Rattle.expansions.specs.declared.Placed.{Placed}
 use Rattle.expansions.specs.Items.{interval, Here, PlacedAt}
 use Rattle.plan.specs.declared.Split.{Split}

@@ -17,7 +17,7 @@ use Rattle.trees.specs.ValidTrees.{rule_at, may_divide, weight_at}
 use Rattle.trees.specs.Instance.{onsets_in, at_division, instance_of}
 use Rattle.trees.specs.LeastTotal.{NONE}
 use Rattle.trees.specs.Expansions.{division_expands}
-use Rattle.trees.specs.Room.{good_division}
+use Rattle.trees.proofs.RoomLaws.{good_division}
 use Rattle.plan.specs.Plan.{length_at, Divides}
 use Rattle.rows.specs.Slots.{item_at}
 use Rattle.rows.specs.Rows.{parts_at}

@@ -16,8 +16,8 @@ use Rattle.derivations.specs.Rebuild.{rules_backward}
 use Rattle.derivations.specs.Interchange.{cut_total}
 use Rattle.trees.specs.Instance.{instance_of}
 use Rattle.trees.specs.LeastTotal.{NONE, carries, cell_of}
-use Rattle.trees.specs.Laws.{lawful}
-use Rattle.trees.specs.Found.{cells_least}
+use Rattle.trees.proofs.Laws.{lawful}
+use Rattle.trees.proofs.Found.{cells_least}
 use Rattle.plan.specs.Plan.{rule_count}
 use Rattle.rows.specs.CellLaws.{total_by}
 use Rattle.rows.specs.PackedLaws.{packed_cell, packed_cell_is, packed_cell_rule}

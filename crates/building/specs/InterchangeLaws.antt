@@ -15,8 +15,8 @@ use Rattle.derivations.specs.Interchange.{Interchangeable, interchangeable_item}
 use Rattle.trees.specs.ValidTrees.{onsets_before}
 use Rattle.trees.specs.Instance.{instance_of}
 use Rattle.trees.specs.LeastTotal.{NONE, carries, cell_of}
-use Rattle.trees.specs.Laws.{lawful}
-use Rattle.trees.specs.Found.{cells_least}
+use Rattle.trees.proofs.Laws.{lawful}
+use Rattle.trees.proofs.Found.{cells_least}
 use Rattle.plan.specs.Plan.{saved_by}
 use Rattle.rows.specs.SavedLaws.{cell_saved}
 use Rattle.rows.specs.IdleLaws.{Idle}

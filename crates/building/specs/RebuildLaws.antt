@@ -20,9 +20,10 @@ use Rattle.derivations.specs.Interchange.{Interchangeable, first_interchanged}
 use Rattle.trees.specs.ValidTrees.{adjoining}
 use Rattle.trees.specs.Instance.{instance_of}
 use Rattle.trees.specs.LeastTotal.{NONE, carries, cell_of}
-use Rattle.trees.specs.Laws.{lawful}
-use Rattle.trees.specs.Found.{cells_least}
-use Rattle.trees.specs.Room.{room, room_pays}
+use Rattle.trees.proofs.Laws.{lawful}
+use Rattle.trees.proofs.Found.{cells_least}
+use Rattle.trees.specs.Room.{room}
+use Rattle.trees.proofs.RoomLaws.{room_pays}
 use Rattle.rows.specs.Slots.{Sound}
 use Rattle.building.specs.declared.Built.{Built}
 use Rattle.building.specs.Clauses.{at, suffix_costs, rest_total, Chosen, BuiltAs, Partway}

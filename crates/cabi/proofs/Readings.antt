@@ -14,9 +14,9 @@ use Rattle.sheet.specs.Outcome.{Outcome, refused, accepted, number_in, line_in}
 use Rattle.sheet.specs.Reading.{read_sheet}
 use Rattle.sheet.specs.Held.{micros, units, units_of, grammar_table, playing_table, timing_table, reading_of}
 use Rattle.sheet.specs.Good.{Good}
-use Rattle.sheet.specs.GoodLaws.{good, good_timing}
+use Rattle.sheet.proofs.GoodLaws.{good, good_timing}
 use Rattle.sheet.specs.Bounds.{refused_within}
-use Rattle.sheet.specs.Accepted.{refused_reading, accepted_reading}
+use Rattle.sheet.proofs.AcceptedLaws.{refused_reading, accepted_reading}
 use Rattle.sizes.specs.Sizes.{work_cells, tree_bytes}
 use Rattle.cabi.specs.Entries.{work_of, tree_of, no_onset, unit_at, bar_line_of}
 

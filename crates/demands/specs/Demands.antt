@@ -28,7 +28,8 @@ use Rattle.sheet.specs.Numbers.{ReadingNumber, reading_number}
 use Rattle.sheet.specs.Accepted.{Refuses, Accepts}
 use Rattle.sizes.specs.Sizes.{tree_bytes, work_cells}
 use Rattle.trees.specs.ValidTrees.{ValidTree, Priced, total_of, entries, KindFits}
-use Rattle.trees.specs.Kinds.{RestFits, rests_fit}
+use Rattle.trees.specs.Kinds.{RestFits}
+use Rattle.trees.proofs.KindLaws.{rests_fit}
 use Rattle.trees.specs.LeastTrees.{InDictionaryOrder}
 use Rattle.pricing.specs.declared.Priced as answer
 use Rattle.pricing.specs.Pricing.{Prices}

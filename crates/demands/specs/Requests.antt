@@ -37,25 +37,27 @@ use Rattle.slices.specs.Every.{Every}
 use Rattle.sheet.specs.Sheet.{Onset, Grammar, Playing, Sheet, Timing, TimedSheet, bar_units, unit_of, line_at, end_of, unit_in, even_lines, bar_of}
 use Rattle.sheet.specs.Outcome.{refused, accepted}
 use Rattle.sheet.specs.Reading.{byte, four, is_tapped, onset_form, in_taps, in_onsets, refusal, read_lines, read_sheet}
-use Rattle.sheet.specs.EvenLines.{even_unit}
+use Rattle.sheet.proofs.EvenLines.{even_unit}
 use Rattle.sheet.specs.TapRefusals as taps
-use Rattle.sheet.specs.Twin as twin
+use Rattle.sheet.proofs.TwinLaws as twin
 use Rattle.sheet.specs.Twin.{Twins}
 use Rattle.sheet.specs.Nearest as nearest
 use Rattle.sheet.specs.Nearest.{NearestUnit}
 use Rattle.sheet.specs.OnsetLines.{onset_lines, playing_line, taps_of, timing_by, late_refused}
-use Rattle.sheet.specs.UnitsRead.{time_at, unit_at, bar_line_at, NearestInBar, units_read, plain_units_read, bar_lines_read}
-use Rattle.sheet.specs.Accepted.{Accepts, accepted_good}
+use Rattle.sheet.specs.UnitsRead.{time_at, unit_at, bar_line_at, NearestInBar}
+use Rattle.sheet.proofs.UnitsReadLaws.{units_read, plain_units_read, bar_lines_read}
+use Rattle.sheet.specs.Accepted.{Accepts}
+use Rattle.sheet.proofs.AcceptedLaws.{accepted_good}
 use Rattle.sheet.specs.Held.{LineHeld, reading_of, Reads}
 use Rattle.sheet.specs.Laws.{ill_formed}
 use Rattle.sheet.specs.Rest.{rest_held}
 use Rattle.sheet.specs.Multiplier.{with_multiplier, AlikeTexts, slid}
-use Rattle.sheet.specs.MultiplierLaws.{texts_alike, slid_accepted}
+use Rattle.sheet.proofs.MultiplierLaws.{texts_alike, slid_accepted}
 use Rattle.plan.specs.Plan.{Prepared, rule_in, first_cell}
 use Rattle.plan.specs.Heads.{HeadGroup}
 use Rattle.plan.specs.HeadLaws.{head_group}
 use Rattle.trees.specs.ValidTrees.{ValidTree, Priced}
-use Rattle.trees.specs.Sliding.{valid_slid}
+use Rattle.trees.proofs.Sliding.{valid_slid}
 use Rattle.finding.specs.Calls.{Call, found_bytes, TreeOf, RoomFor}
 use Rattle.finding.specs.SlidingLaws as sliding
 

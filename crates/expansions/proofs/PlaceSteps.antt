@@ -13,7 +13,7 @@ use Rattle.slices.specs.Every.{Every}
 use Rattle.sheet.specs.Sheet.{Onset, Sheet}
 use Rattle.trees.specs.ValidTrees.{whose, is_early, inside, early, late, distance_to}
 use Rattle.trees.specs.Instance.{onsets_in, early_count, late_count, own_distance}
-use Rattle.trees.specs.Onsets.{onsets_most, onsets_before_lem, early_late, inside_bounds, own_distance_most}
+use Rattle.trees.proofs.Onsets.{onsets_most, onsets_before_lem, early_late, inside_bounds, own_distance_most}
 use Rattle.expansions.specs.Items.{interval, first_at, Here, PlacedAt}
 use Rattle.expansions.specs.Places.{unit_from, cell_is, inside_then, first_behind}
 

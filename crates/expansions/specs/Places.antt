@@ -11,8 +11,9 @@ use Rattle.sheet.specs.Sheet.{Onset, Playing, Sheet}
 use Rattle.sheet.specs.Good.{GoodOnsets}
 use Rattle.trees.specs.ValidTrees.{whose, inside, onsets_before}
 use Rattle.trees.specs.Instance.{onsets_in}
-use Rattle.trees.specs.Order.{within, within-append, within_all}
-use Rattle.trees.specs.Onsets.{onsets-add, onsets_none, onsets_most, onsets_before_lem, whose_passes}
+use Rattle.trees.specs.Order.{within}
+use Rattle.trees.proofs.OrderLaws.{within-append, within_all}
+use Rattle.trees.proofs.Onsets.{onsets-add, onsets_none, onsets_most, onsets_before_lem, whose_passes}
 use Rattle.expansions.specs.Tables.{last_unit, unit_in, unit_cells}
 use Rattle.expansions.specs.Items.{first_at}
 

@@ -7,7 +7,7 @@ use Rattle.sheet.specs.declared.clock.Units.{Units}
 use Rattle.sheet.specs.Sheet.{Sheet}
 use Rattle.sheet.specs.Held.{units}
 use Rattle.trees.specs.ValidTrees.{rule_at}
-use Rattle.trees.specs.Room.{good_division}
+use Rattle.trees.proofs.RoomLaws.{good_division}
 use Rattle.expansions.specs.Tables.{last_unit}
 use Rattle.plan.specs.Plan.{Prepared, length_at, length_cell, arity_of}
 use Rattle.plan.specs.PlanLaws.{lengths_most, length_positive}

@@ -8,8 +8,9 @@ use Rattle.sheet.specs.Sheet.{Rule, division, leaf, Sheet, bar_units}
 use Rattle.sheet.specs.Good.{GoodRules}
 use Rattle.sheet.specs.Held.{units}
 use Rattle.trees.specs.ValidTrees.{rule_at}
-use Rattle.trees.specs.Room.{good_division}
-use Rattle.trees.specs.Intervals.{Aligned, aligned_part}
+use Rattle.trees.proofs.RoomLaws.{good_division}
+use Rattle.trees.specs.Intervals.{Aligned}
+use Rattle.trees.proofs.IntervalLaws.{aligned_part}
 use Rattle.plan.specs.declared.Split.{Split}
 use Rattle.plan.specs.Plan.{Prepared, lengths, length_at, length_cell, arity_of, PartsOf, NoDivision}
 use Rattle.plan.specs.PlanLaws.{lengths_most, length_positive, part_listed}

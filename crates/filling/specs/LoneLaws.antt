@@ -7,7 +7,7 @@ use Rattle.sheet.specs.declared.clock.Units.{Units}
 use Rattle.sheet.specs.Sheet.{Sheet, bar_units}
 use Rattle.sheet.specs.Good.{GoodOnsets}
 use Rattle.sheet.specs.Held.{units}
-use Rattle.trees.specs.Intervals.{named}
+use Rattle.trees.proofs.IntervalLaws.{named}
 use Rattle.sizes.specs.SizesLaws.{length-divides}
 use Rattle.expansions.specs.Tables.{last_unit}
 use Rattle.expansions.specs.Items.{first_at}

@@ -13,7 +13,7 @@ use Rattle.sheet.specs.declared.table.GrammarTable.{GrammarTable}
 use Rattle.sheet.specs.Sheet.{Rule, division, leaf, Sheet}
 use Rattle.sheet.specs.Held.{grammar_table}
 use Rattle.trees.specs.ValidTrees.{rule_at, weight_of, weight_at, rule_weight, total_of}
-use Rattle.trees.specs.Theorems.{valid_bytes, nodes_most}
+use Rattle.trees.proofs.Theorems.{valid_bytes, nodes_most}
 use Rattle.expansions.specs.Tables.{unpacked_of, cell_of, PackedRules}
 use Rattle.pricing.specs.Pricing.{priced, priced_of}
 use Rattle.finding.specs.Clauses.{weight_in, WeightPre, FiguresPre}

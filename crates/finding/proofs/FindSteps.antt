@@ -15,7 +15,8 @@ use Rattle.sheet.specs.Reading.{read_sheet}
 use Rattle.sheet.specs.Held.{grammar_table, playing_table, reading_of}
 use Rattle.sheet.specs.Good.{GoodRules, Good}
 use Rattle.sheet.specs.Outcome.{Outcome, refused}
-use Rattle.sheet.specs.Accepted.{SheetHeld, on_refused, on_held}
+use Rattle.sheet.specs.Accepted.{SheetHeld}
+use Rattle.sheet.proofs.AcceptedLaws.{on_refused, on_held}
 use Rattle.sizes.specs.declared.LengthTable.{LengthTable}
 use Rattle.sizes.specs.Sizes.{lengths_of, length_count, tree_bytes, work_cells}
 use Rattle.sizes.specs.Held.{length_table}

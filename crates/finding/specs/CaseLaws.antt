@@ -11,10 +11,10 @@ use Rattle.derivations.specs.Derivation.{Price}
 use Rattle.trees.specs.ValidTrees as trees
 use Rattle.trees.specs.ValidTrees.{bars, ValidTree, total_of}
 use Rattle.trees.specs.Instance.{instance_of, Derived}
-use Rattle.trees.specs.Laws.{lawful}
-use Rattle.trees.specs.Equivalence.{valid_derived}
+use Rattle.trees.proofs.Laws.{lawful}
+use Rattle.trees.proofs.Equivalence.{valid_derived}
 use Rattle.trees.specs.LeastTrees.{InDictionaryOrder, FirstTree}
-use Rattle.trees.specs.Found.{own_price}
+use Rattle.trees.proofs.Found.{own_price}
 use Rattle.pricing.specs.Pricing.{Figures, priced, price_sheet}
 use Rattle.pricing.specs.PricingLaws.{price_own}
 use Rattle.finding.specs.EveryReading.{reading_passes}

@@ -9,12 +9,13 @@ use Rattle.slices.specs.Over.{over-drop}
 use Rattle.sheet.specs.Sheet.{Sheet}
 use Rattle.sheet.specs.Outcome.{Outcome, refused, accepted}
 use Rattle.sheet.specs.Good.{Good}
-use Rattle.sheet.specs.Accepted.{Refuses, Accepts, accepted_good, refuses_or_accepts}
+use Rattle.sheet.specs.Accepted.{Refuses, Accepts}
+use Rattle.sheet.proofs.AcceptedLaws.{accepted_good, refuses_or_accepts}
 use Rattle.sizes.specs.Sizes.{tree_bytes, work_cells}
 use Rattle.trees.specs.ValidTrees as trees
 use Rattle.trees.specs.ValidTrees.{ValidTree, total_of}
 use Rattle.trees.specs.LeastTrees.{InDictionaryOrder, FirstTree}
-use Rattle.trees.specs.Theorems.{none_or_first}
+use Rattle.trees.proofs.Theorems.{none_or_first}
 use Rattle.pricing.specs.declared.Priced.{Priced}
 use Rattle.pricing.specs.Pricing.{priced_of}
 use Rattle.pricing.specs.PriceLaws.{refused_as, priced_as}

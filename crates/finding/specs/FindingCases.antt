@@ -22,7 +22,8 @@ use Rattle.sheet.specs.Sheet.{Sheet, TimedSheet}
 use Rattle.sheet.specs.Outcome.{Outcome, refused, accepted}
 use Rattle.sheet.specs.Reading.{read_sheet}
 use Rattle.sheet.specs.Good.{Good}
-use Rattle.sheet.specs.Accepted.{Accepts, accepted_good}
+use Rattle.sheet.specs.Accepted.{Accepts}
+use Rattle.sheet.proofs.AcceptedLaws.{accepted_good}
 use Rattle.sheet.specs.Cases.{S, sheet_s, S_means}
 use Rattle.sizes.specs.Sizes.{tree_bytes, work_cells}
 use Rattle.sizes.specs.Cases.{S_tree, S_work}

@@ -15,18 +15,19 @@ use Rattle.slices.specs.Every.{Every, every_weaken}
 use Rattle.slices.specs.Over.{over, length-over, take-over, drop-over}
 use Rattle.sheet.specs.Sheet.{Sheet, bar_units}
 use Rattle.sheet.specs.Outcome.{Outcome, refused, accepted}
-use Rattle.sheet.specs.Accepted.{Refuses, Accepts, accepted_good, refuses_or_accepts, on_refusal, on_sheet_lem}
+use Rattle.sheet.specs.Accepted.{Refuses, Accepts}
+use Rattle.sheet.proofs.AcceptedLaws.{accepted_good, refuses_or_accepts, on_refusal, on_sheet_lem}
 use Rattle.sheet.specs.Numbers.{ReadingNumber, reading_apart, reading_number}
 use Rattle.sheet.specs.Good.{Good}
 use Rattle.sizes.specs.Sizes.{tree_bytes, work_cells}
 use Rattle.derivations.specs.Derivation.{Price, derive}
 use Rattle.trees.specs.ValidTrees.{adjoining, bars, ValidTree, total_of}
 use Rattle.trees.specs.Instance.{instance_of, Derived}
-use Rattle.trees.specs.Equivalence.{valid_derived}
+use Rattle.trees.proofs.Equivalence.{valid_derived}
 use Rattle.trees.specs.LeastTotal.{NONE, least_total}
 use Rattle.trees.specs.LeastTrees.{FirstTree}
-use Rattle.trees.specs.Found.{own_price, first_tree, least_total_below}
-use Rattle.trees.specs.Theorems.{valid_bytes, node_count, total_below}
+use Rattle.trees.proofs.Found.{own_price, first_tree, least_total_below}
+use Rattle.trees.proofs.Theorems.{valid_bytes, node_count, total_below}
 use Rattle.pricing.specs.declared.Priced.{Priced}
 use Rattle.pricing.specs.Pricing.{price_sheet, priced_of}
 use Rattle.pricing.specs.PricingLaws.{tree_priced}

@@ -8,7 +8,7 @@ use Rattle.sheet.specs.Sheet.{division, leaf, Sheet}
 use Rattle.sheet.specs.Reading.{read_sheet}
 use Rattle.sheet.specs.Accepted.{Accepts}
 use Rattle.sheet.specs.Multiplier.{with_multiplier, slid}
-use Rattle.sheet.specs.MultiplierLaws.{slid_accepted}
+use Rattle.sheet.proofs.MultiplierLaws.{slid_accepted}
 use Rattle.derivations.specs.Derivation.{onto}
 use Rattle.trees.specs.ValidTrees as trees
 use Rattle.trees.specs.ValidTrees.{whose, distance_to}

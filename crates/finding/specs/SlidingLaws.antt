@@ -6,11 +6,11 @@ use Rattle.std.proofs.Common.{sym, ap, subst, ◌∙◌, arith, length-take}
 use Rattle.sheet.specs.Sheet.{Sheet}
 use Rattle.sheet.specs.Accepted.{Accepts}
 use Rattle.sheet.specs.Multiplier.{with_multiplier, AlikeTexts}
-use Rattle.sheet.specs.MultiplierLaws.{texts_alike}
+use Rattle.sheet.proofs.MultiplierLaws.{texts_alike}
 use Rattle.sizes.specs.Sizes.{tree_bytes, work_cells}
 use Rattle.trees.specs.ValidTrees as trees
 use Rattle.trees.specs.LeastTrees.{FirstTree}
-use Rattle.trees.specs.Sliding.{none_dominates, valid_slid, first_slides, skips}
+use Rattle.trees.proofs.Sliding.{none_dominates, valid_slid, first_slides, skips}
 use Rattle.pricing.specs.declared.Priced.{Priced}
 use Rattle.finding.specs.Calls.{Call, found_bytes, TreeOf, RoomFor}
 use Rattle.finding.specs.FindingLaws.{TreeHandedBack, some_then_zero, zero_then_some}

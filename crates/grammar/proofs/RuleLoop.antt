@@ -20,8 +20,8 @@ use Rattle.sheet.specs.Held.{LineHeld, grammar_table, parts_of, child_cells}
 use Rattle.sheet.specs.Good.{GoodRules}
 use Rattle.sheet.specs.SoFar.{GoodProgress}
 use Rattle.sheet.specs.Laws.{demand_zero, end_in_rules}
-use Rattle.sheet.specs.GoodBars.{line_small}
-use Rattle.sheet.specs.GoodLines.{good_after}
+use Rattle.sheet.proofs.GoodBars.{line_small}
+use Rattle.sheet.proofs.GoodLines.{good_after}
 use Rattle.grammar.specs.Clauses.{cell_of, arity_of, RulesDone, RulesRead}
 use Rattle.grammar.proofs.Tables.{cell_is, parts_are, room, rule_stored}
 

@@ -14,7 +14,7 @@ use Rattle.sheet.specs.declared.table.Rule.TheVariants.{Division, Leaf}
 use Rattle.sheet.specs.Sheet.{Rule, division, leaf, Sheet}
 use Rattle.sheet.specs.Good.{GoodRules}
 use Rattle.trees.specs.ValidTrees.{rule_at, weight_of, weight_at}
-use Rattle.trees.specs.Room.{good_division}
+use Rattle.trees.proofs.RoomLaws.{good_division}
 use Rattle.expansions.specs.Tables.{unpacked_of, cell_of, PackedRules}
 use Rattle.expansions.specs.RuleCells.{leaf≢division, leaf_rule, DivisionRule, division_rule}
 use Rattle.plan.specs.declared.Split.{Split}

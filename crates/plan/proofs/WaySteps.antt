@@ -18,7 +18,7 @@ use Rattle.sheet.specs.declared.table.Rule.TheVariants.{Division, Leaf}
 use Rattle.sheet.specs.Sheet.{division, Sheet}
 use Rattle.trees.specs.ValidTrees.{rule_at, token, weight_at}
 use Rattle.trees.specs.LeastTotal.{NONE}
-use Rattle.trees.specs.Room.{good_division}
+use Rattle.trees.proofs.RoomLaws.{good_division}
 use Rattle.expansions.specs.Tables.{unpacked_of, cell_of, RulesHeld}
 use Rattle.expansions.specs.RuleCells.{leaf≢division}
 use Rattle.plan.specs.Layout.{ways_at, plan_cells}

@@ -16,7 +16,7 @@ use Rattle.sheet.specs.Children.{parts_of_lem}
 use Rattle.derivations.specs.Minima.{lowest_cap}
 use Rattle.trees.specs.ValidTrees.{rule_at, token}
 use Rattle.trees.specs.LeastTotal.{NONE}
-use Rattle.trees.specs.Room.{good_division}
+use Rattle.trees.proofs.RoomLaws.{good_division}
 use Rattle.sizes.specs.Sizes.{has_arity, Length, part, lengths_of}
 use Rattle.sizes.specs.SizesLaws.{length-divides, count_length, whole_first, length_count_most, lengths_listed}
 use Rattle.sizes.specs.Divisors.{positive_left, positive_right}

@@ -7,7 +7,7 @@ use native.Mathlib.Decide.{dec_le}
 use borrow.Author.Tests.{le-leb, lt-ltb, lt-leb}
 use Rattle.sheet.specs.Sheet.{Timing, bar_units, line_at, unit_in, end_of}
 use Rattle.sheet.specs.Reading.{moment_refusal}
-use Rattle.sheet.specs.BarLines.{rises, end_reached, end_not_reached}
+use Rattle.sheet.proofs.BarLines.{rises, end_reached, end_not_reached}
 use Rattle.sheet.specs.PlayingLaws.{moment_early, moment_past, moment_late}
 use Rattle.bar_lines.specs.declared.clock.Clock.{Clock}
 use Rattle.bar_lines.specs.Lines.{ClockOf}

@@ -20,11 +20,11 @@ use Rattle.sheet.specs.Outcome.{Outcome, accepted}
 use Rattle.sheet.specs.Reading.{byte, four, onset_refusal, onset_of, with_onset, in_onsets, after}
 use Rattle.sheet.specs.Rest.{read_rest, stopped, rest_end, rest_past, rest_bad, rest_stop, rest_held, rest_on}
 use Rattle.sheet.specs.Held.{LineHeld, units, playing_table, timing_table, no_grammar, micros}
-use Rattle.sheet.specs.BarLines.{first_bar, rises}
+use Rattle.sheet.proofs.BarLines.{first_bar, rises}
 use Rattle.sheet.specs.Laws.{end_without, end_with}
 use Rattle.sheet.specs.PlayingLaws.{onset_passed, onset_line}
-use Rattle.sheet.specs.GoodBars.{good_none}
-use Rattle.sheet.specs.GoodLines.{good_onset}
+use Rattle.sheet.proofs.GoodBars.{good_none}
+use Rattle.sheet.proofs.GoodLines.{good_onset}
 use Rattle.bar_lines.specs.declared.clock.Clock.{Clock}
 use Rattle.bar_lines.specs.Lines.{ClockOf}
 use Rattle.playing.specs.Clauses.{timing_in, tapped_in, LatestIn, OnsetsSoFar, OnsetStepped, OnsetStepOf, TakeRead}

@@ -16,13 +16,13 @@ use Rattle.sheet.specs.Sheet.{Onset, Grammar, Playing, Timing, unit_in, bar_of, 
 use Rattle.sheet.specs.Reading.{first, byte, four, onset_form, moment_refusal, room_refusal, onset_refusal, onset_of, with_onset, other_refusal}
 use Rattle.sheet.specs.Reading.{in_onsets, refusal}
 use Rattle.sheet.specs.Clock.{div_mono}
-use Rattle.sheet.specs.BarLines.{units_up}
+use Rattle.sheet.proofs.BarLines.{units_up}
 use Rattle.sheet.specs.Laws.{first_met, first_failed}
 use Rattle.sheet.specs.PlayingLaws.{MomentPassed, moment_passed}
 use Rattle.playing.specs.Clauses.{latest_of, run_in, OnsetStepped, StepPlaced}
 use Rattle.sheet.specs.Held.{micros}
 use Rattle.sheet.specs.SoFar.{GoodSoFar}
-use Rattle.sheet.specs.GoodLines.{in_bar_more}
+use Rattle.sheet.proofs.GoodLines.{in_bar_more}
 
 -- no onset is in a bar behind all of theirs
 in_bar_none : (b : ℕ) (os : List Onset) → Every (λ (o : Onset). bar_of o.unit < b) os → in_bar b os ≡ 0

@@ -18,7 +18,7 @@ use Rattle.derivations.specs.Derivation.{derive}
 use Rattle.derivations.specs.Reads.{reads_all, reads_more, stuck_all}
 use Rattle.trees.specs.ValidTrees.{bars, total_of}
 use Rattle.trees.specs.Instance.{instance_of}
-use Rattle.trees.specs.Theorems.{node_count}
+use Rattle.trees.proofs.Theorems.{node_count}
 use Rattle.expansions.specs.Tables.{PackedRules, unit_cells}
 use Rattle.expansions.specs.Items.{interval}
 use Rattle.expansions.specs.Places.{first_zero}

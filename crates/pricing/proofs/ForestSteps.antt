@@ -13,7 +13,7 @@ use Rattle.derivations.specs.Derivation.{Item, ◌⊞◌, unspent}
 use Rattle.derivations.specs.Reads.{reads_nil, reads_append, stuck_front, stuck_back}
 use Rattle.trees.specs.ValidTrees.{adjoining}
 use Rattle.trees.specs.Instance.{instance_of}
-use Rattle.trees.specs.Laws.{adjoining-append}
+use Rattle.trees.proofs.Laws.{adjoining-append}
 use Rattle.expansions.specs.Items.{interval, first_at, item_of}
 use Rattle.pricing.specs.declared.Progress.{Progress}
 use Rattle.pricing.specs.declared.Walk.{Walk}

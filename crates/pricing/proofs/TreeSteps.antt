@@ -20,7 +20,7 @@ use Rattle.derivations.specs.Reads.{reads_nil, reads_rule, stuck_rule, stuck_par
 use Rattle.trees.specs.ValidTrees.{rule_at, weight_of, weight_at}
 use Rattle.trees.specs.Instance.{onsets_in, at_leaf, at_division, instance_of}
 use Rattle.trees.specs.Expansions.{may_divide_lem, parts_whole}
-use Rattle.trees.specs.Onsets.{early_late, own_distance_most, divided_long}
+use Rattle.trees.proofs.Onsets.{early_late, own_distance_most, divided_long}
 use Rattle.expansions.specs.declared.Interval.{Interval}
 use Rattle.expansions.specs.declared.Expansion.{Expansion}
 use Rattle.expansions.specs.declared.Expansion.TheVariants.{Refused, Leaf, Division}

@@ -4,10 +4,11 @@ use Rattle.std.specs.Prelude.{ℕ, ◌≡◌, List, ◌⊎◌, ◌↔◌, length
 use Rattle.std.proofs.Common.{sym, ◌∙◌, inl, inr, arith}
 use Rattle.std.proofs.Math.Path.{ap}
 use Rattle.sheet.specs.Sheet.{Sheet}
-use Rattle.sheet.specs.Accepted.{Refuses, Accepts, on_refusal, on_sheet_lem}
+use Rattle.sheet.specs.Accepted.{Refuses, Accepts}
+use Rattle.sheet.proofs.AcceptedLaws.{on_refusal, on_sheet_lem}
 use Rattle.trees.specs.ValidTrees as trees
 use Rattle.trees.specs.ValidTrees.{ValidTree, total_of}
-use Rattle.trees.specs.Found.{own_price}
+use Rattle.trees.proofs.Found.{own_price}
 use Rattle.pricing.specs.declared.Priced.{Priced}
 use Rattle.pricing.specs.Pricing.{price_sheet, price_text, priced_of}
 use Rattle.pricing.specs.PricingLaws.{tree_priced, tree_or_none, none_refused, refused_none}

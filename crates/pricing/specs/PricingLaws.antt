@@ -11,8 +11,8 @@ use Rattle.sheet.specs.Sheet.{Sheet}
 use Rattle.derivations.specs.Derivation.{Price, derive, price_eq}
 use Rattle.trees.specs.ValidTrees.{bars, ValidTree, Priced, total_of}
 use Rattle.trees.specs.Instance.{instance_of, Derived}
-use Rattle.trees.specs.Equivalence.{valid_derived, derived_valid}
-use Rattle.trees.specs.Found.{own_price}
+use Rattle.trees.proofs.Equivalence.{valid_derived, derived_valid}
+use Rattle.trees.proofs.Found.{own_price}
 use Rattle.sheet.specs.Outcome.{accepted_not_refused, accepted_value}
 use Rattle.pricing.specs.Pricing.{Figures, priced, no_tree, price_sheet}
 

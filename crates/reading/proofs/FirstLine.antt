@@ -14,8 +14,8 @@ use Rattle.sheet.specs.Laws.{ill_formed}
 use Rattle.sheet.specs.Rest.{read_rest, stopped, rest_bad, rest_stop, rest_held, rest_on}
 use Rattle.sheet.specs.Held.{LineHeld}
 use Rattle.sheet.specs.Good.{GoodRules}
-use Rattle.sheet.specs.GoodBars.{line_small}
-use Rattle.sheet.specs.GoodLines.{good_after}
+use Rattle.sheet.proofs.GoodBars.{line_small}
+use Rattle.sheet.proofs.GoodLines.{good_after}
 
 -- a first line that is not refused: its bytes, a good grammar so far, and the text is what the lines behind it come to
 pub record Taken (t : List ℕ) (l : Line) : Type 0 where

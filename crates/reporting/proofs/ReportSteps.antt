@@ -19,10 +19,11 @@ use Rattle.sheet.specs.Sheet.{Sheet}
 use Rattle.sheet.specs.Reading.{read_sheet}
 use Rattle.sheet.specs.Held.{reading_of}
 use Rattle.sheet.specs.Outcome.{Outcome, refused, accepted}
-use Rattle.sheet.specs.Accepted.{SheetHeld, on_refused, on_held}
+use Rattle.sheet.specs.Accepted.{SheetHeld}
+use Rattle.sheet.proofs.AcceptedLaws.{on_refused, on_held}
 use Rattle.trees.specs.ValidTrees.{total_of}
 use Rattle.trees.specs.Room.{tree_most}
-use Rattle.trees.specs.Theorems.{nodes_most}
+use Rattle.trees.proofs.Theorems.{nodes_most}
 use Rattle.pricing.specs.declared.Priced.{Priced}
 use Rattle.pricing.specs.PricingLaws.{tree_priced}
 use Rattle.score.specs.declared.Written.{Written}

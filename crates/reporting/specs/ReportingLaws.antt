@@ -13,7 +13,7 @@ use Rattle.reporting.specs.declared.Shown.{Shown}
 use Rattle.reporting.specs.declared.Shown.TheVariants.{Score, Line}
 use Rattle.sheet.specs.Bounds.{refused_within}
 use Rattle.sheet.specs.Outcome.{Outcome, refused, accepted}
-use Rattle.sheet.specs.Accepted.{refuses_or_accepts}
+use Rattle.sheet.proofs.AcceptedLaws.{refuses_or_accepts}
 use Rattle.score.specs.Writing as writing
 use Rattle.score.specs.Writing.{text_within}
 use Rattle.finding.specs.Finding.{Search, no_tree, found, find_text, line_of}

@@ -15,9 +15,9 @@ use Rattle.trees.specs.ValidTrees.{adjoining}
 use Rattle.trees.specs.Instance.{onsets_in, late_count, at_division, instance_of}
 use Rattle.trees.specs.LeastTotal.{NONE, carries, cell_of}
 use Rattle.trees.specs.Expansions.{Step, DivisionStep, step_of, may_divide_lem, parts_whole}
-use Rattle.trees.specs.Onsets.{onsets-add, divided_long, early_late}
-use Rattle.trees.specs.Laws.{part_of, each_part}
-use Rattle.trees.specs.Room.{good_division}
+use Rattle.trees.proofs.Onsets.{onsets-add, divided_long, early_late}
+use Rattle.trees.proofs.Laws.{part_of, each_part}
+use Rattle.trees.proofs.RoomLaws.{good_division}
 use Rattle.plan.specs.Plan.{rule_count}
 use Rattle.rows.specs.VectorLaws.{only_other, lowest_none}
 use Rattle.rows.specs.CellLaws.{total_by, cell_rules, total_none, total_some, total_leaf}

@@ -22,8 +22,8 @@ use Rattle.trees.specs.ValidTrees.{onsets_before, adjoining, rule_at, may_divide
 use Rattle.trees.specs.Instance.{onsets_in, early_count, late_count, own_distance, at_leaf, at_division, instance_of}
 use Rattle.trees.specs.LeastTotal.{NONE, carries, cell_of}
 use Rattle.trees.specs.Expansions.{Step, step_of, leaf_expands, division_expands, may_divide_lem}
-use Rattle.trees.specs.Onsets.{early_late, own_distance_most}
-use Rattle.trees.specs.Laws.{lawful, falls}
+use Rattle.trees.proofs.Onsets.{early_late, own_distance_most}
+use Rattle.trees.proofs.Laws.{lawful, falls}
 use Rattle.plan.specs.Leaves.{rule_count, leaf_cost, least_leaf}
 use Rattle.rows.specs.VectorLaws.{only_other, lowest_capped, lowest_both, lowest_more, lowest_none}
 

@@ -4,7 +4,7 @@ use Rattle.std.proofs.Common.{ap, ◌∙◌, mul-le-mul, arith}
 use Rattle.sheet.specs.Sheet.{Sheet}
 use Rattle.trees.specs.ValidTrees.{token}
 use Rattle.trees.specs.Instance.{onsets_in, own_distance}
-use Rattle.trees.specs.Onsets.{onsets_most, early_late, own_distance_most}
+use Rattle.trees.proofs.Onsets.{onsets_most, early_late, own_distance_most}
 use Rattle.trees.specs.LeastTotal.{NONE}
 use Rattle.expansions.specs.declared.Interval.{Interval}
 use Rattle.expansions.specs.declared.Placed.{Placed}

@@ -10,7 +10,7 @@ use Rattle.sheet.specs.Good.{GoodOnsets}
 use Rattle.derivations.specs.Derivation.{Item}
 use Rattle.trees.specs.Instance.{onsets_in}
 use Rattle.trees.specs.LeastTotal.{carries}
-use Rattle.trees.specs.Intervals.{named}
+use Rattle.trees.proofs.IntervalLaws.{named}
 use Rattle.sizes.specs.Sizes.{most_in_bar}
 use Rattle.sizes.specs.SizesLaws.{most_in_bar_most}
 use Rattle.expansions.specs.Tables.{last_unit}

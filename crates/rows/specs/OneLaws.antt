@@ -13,11 +13,11 @@ use Rattle.derivations.specs.Derivation.{Item}
 use Rattle.derivations.specs.Minima.{lowest, only, only_same}
 use Rattle.derivations.specs.Folds.{Cells, forward, onward}
 use Rattle.trees.specs.ValidTrees.{onsets_before, adjoining, token}
-use Rattle.trees.specs.Kinds.{kind_before}
+use Rattle.trees.proofs.KindLaws.{kind_before}
 use Rattle.trees.specs.Instance.{onsets_in}
 use Rattle.trees.specs.LeastTotal.{NONE, carries, cell_of}
-use Rattle.trees.specs.Onsets.{onsets-add, before_later}
-use Rattle.trees.specs.Laws.{adjoining-append}
+use Rattle.trees.proofs.Onsets.{onsets-add, before_later}
+use Rattle.trees.proofs.Laws.{adjoining-append}
 use Rattle.plan.specs.Plan.{least_leaf}
 use Rattle.plan.specs.PlanLaws.{least_leaf_most}
 use Rattle.rows.specs.CellLaws.{cell_empty}

@@ -13,7 +13,7 @@ use Rattle.sheet.specs.Sheet.{Onset, Sheet}
 use Rattle.sheet.specs.Good.{GoodOnsets}
 use Rattle.trees.specs.ValidTrees.{whose, is_early, inside, early, late, onsets_before, token, distance_to}
 use Rattle.trees.specs.Instance.{onsets_in, early_count, late_count, own_distance}
-use Rattle.trees.specs.Onsets.{onsets-add}
+use Rattle.trees.proofs.Onsets.{onsets-add}
 use Rattle.plan.specs.Plan.{least_leaf}
 use Rattle.groups.specs.Sums.{sum_to, sum_same}
 use Rattle.plan.specs.Ways.{beside_at, beside_sum}

@@ -10,7 +10,7 @@ use Rattle.derivations.specs.Derivation.{Item}
 use Rattle.derivations.specs.Minima.{lowest, lowest_cap, only}
 use Rattle.derivations.specs.Folds.{forward}
 use Rattle.trees.specs.ValidTrees.{onsets_before, adjoining, token, weight_at}
-use Rattle.trees.specs.Kinds.{kind_before}
+use Rattle.trees.proofs.KindLaws.{kind_before}
 use Rattle.trees.specs.Instance.{onsets_in, early_count, late_count, own_distance}
 use Rattle.trees.specs.LeastTotal.{NONE, carries, cell_of}
 use Rattle.plan.specs.Plan.{rule_count, length_at, Divides}

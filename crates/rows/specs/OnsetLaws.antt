@@ -8,9 +8,9 @@ use Rattle.slices.specs.Every.{Every}
 use Rattle.sheet.specs.Sheet.{Onset, Sheet, bar_units, in_bar}
 use Rattle.sheet.specs.Good.{GoodOnsets}
 use Rattle.trees.specs.ValidTrees.{inside, onsets_before}
-use Rattle.trees.specs.LeafBounds.{in_bar_most}
+use Rattle.trees.proofs.LeafBoundLaws.{in_bar_most}
 use Rattle.trees.specs.Instance.{onsets_in}
-use Rattle.trees.specs.Onsets.{inside_bounds}
+use Rattle.trees.proofs.Onsets.{inside_bounds}
 use Rattle.sizes.specs.Sizes.{largest, most_in_bar}
 use Rattle.expansions.specs.Tables.{UnitsHeld, last_unit, unit_cells}
 use Rattle.expansions.specs.Items.{first_at}

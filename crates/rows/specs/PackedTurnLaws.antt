@@ -12,7 +12,7 @@ use Rattle.trees.specs.ValidTrees.{weight_at}
 use Rattle.trees.specs.Instance.{late_count, own_distance}
 use Rattle.trees.specs.LeastTotal.{NONE, carries, cell_of}
 use Rattle.trees.specs.Expansions.{may_divide_lem}
-use Rattle.trees.specs.Room.{good_division}
+use Rattle.trees.proofs.RoomLaws.{good_division}
 use Rattle.plan.specs.Plan.{rule_count, length_at, Divides, NoDivision}
 use Rattle.plan.specs.Packed.{packed, packed_next, packed_leaf}
 use Rattle.rows.specs.Vectors.{vec, lowered_by}

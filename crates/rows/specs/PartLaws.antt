@@ -15,9 +15,10 @@ use Rattle.derivations.specs.Minima.{lowest, lowest_cap, only, only_cap}
 use Rattle.derivations.specs.Folds.{Cells, forward, onward, forward_snoc}
 use Rattle.trees.specs.ValidTrees.{adjoining, rule_at}
 use Rattle.trees.specs.LeastTotal.{NONE, carries, cell_of}
-use Rattle.trees.specs.Laws.{adjoining-append}
-use Rattle.trees.specs.Room.{good_division}
-use Rattle.trees.specs.Intervals.{Aligned, aligned_part}
+use Rattle.trees.proofs.Laws.{adjoining-append}
+use Rattle.trees.proofs.RoomLaws.{good_division}
+use Rattle.trees.specs.Intervals.{Aligned}
+use Rattle.trees.proofs.IntervalLaws.{aligned_part}
 use Rattle.expansions.specs.Tables.{UnitsHeld, last_unit}
 use Rattle.expansions.specs.Items.{first_at}
 use Rattle.plan.specs.Plan.{length_at, child_cell, length_cell}

@@ -20,12 +20,12 @@ use Rattle.derivations.specs.Minima.{lowest, lowest_cap, only}
 use Rattle.derivations.specs.Folds.{Cells, onward, forward}
 use Rattle.derivations.specs.Cells.{EveryPart, depth_rec}
 use Rattle.trees.specs.ValidTrees.{onsets_before, adjoining, rule_at, token}
-use Rattle.trees.specs.Kinds.{kind_before}
+use Rattle.trees.proofs.KindLaws.{kind_before}
 use Rattle.trees.specs.Instance.{early_count, late_count, own_distance, at_division, instance_of}
 use Rattle.trees.specs.LeastTotal.{NONE, carries, cell_of}
 use Rattle.trees.specs.Expansions.{DivisionStep, step_of, division_expands}
-use Rattle.trees.specs.Laws.{falls}
-use Rattle.trees.specs.Room.{good_division}
+use Rattle.trees.proofs.Laws.{falls}
+use Rattle.trees.proofs.RoomLaws.{good_division}
 use Rattle.sizes.specs.Sizes.{largest}
 use Rattle.plan.specs.Leaves.{rule_count, leaf_cost, least_leaf}
 use Rattle.plan.specs.Plan.{saved_at, saved_by}

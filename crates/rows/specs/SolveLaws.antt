@@ -3,7 +3,7 @@ use Rattle.std.specs.Prelude.{ℕ, ◌+◌, ◌≤◌, ◌<◌, ◌≡◌, refl,
 use Rattle.std.proofs.Common.{sym, subst, mul-le-mul_right, arith}
 use Rattle.sheet.specs.declared.clock.Units.{Units}
 use Rattle.sheet.specs.Sheet.{Sheet}
-use Rattle.trees.specs.Room.{good_division}
+use Rattle.trees.proofs.RoomLaws.{good_division}
 use Rattle.plan.specs.Plan.{length_at, length_cell, rule_in, first_cell, last_cell, rule_count, Prepared}
 use Rattle.plan.specs.Plan.{DivisionAt, Divides, SplitAt}
 use Rattle.plan.specs.declared.Split.{Split}

@@ -7,7 +7,7 @@ use Rattle.sheet.specs.declared.clock.Units.{Units}
 use Rattle.sheet.specs.Sheet.{Sheet}
 use Rattle.derivations.specs.Derivation.{Item}
 use Rattle.trees.specs.LeastTotal.{NONE, cell_of}
-use Rattle.trees.specs.Room.{good_division}
+use Rattle.trees.proofs.RoomLaws.{good_division}
 use Rattle.plan.specs.Plan.{Prepared, length_at, way_cell, WaysOf, Divides}
 use Rattle.plan.specs.PlanLaws.{straight_most, crossed_most, onward_most}
 use Rattle.rows.specs.declared.one.Pair.{Pair}

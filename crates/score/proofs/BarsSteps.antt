@@ -10,8 +10,8 @@ use Rattle.sheet.specs.Sheet.{Sheet, bar_units}
 use Rattle.derivations.specs.Derivation.{Price, derive}
 use Rattle.trees.specs.ValidTrees.{adjoining, bars, placed_from, Priced}
 use Rattle.trees.specs.Instance.{instance_of, Derived}
-use Rattle.trees.specs.Equivalence.{valid_derived}
-use Rattle.trees.specs.Found.{own_price}
+use Rattle.trees.proofs.Equivalence.{valid_derived}
+use Rattle.trees.proofs.Found.{own_price}
 use Rattle.trees.specs.Leaves.{leaves_from, entries_of}
 use Rattle.expansions.specs.Places.{first_zero}
 use Rattle.score.specs.declared.tree.Place.{Place}

@@ -16,9 +16,9 @@ use Rattle.sheet.specs.Good.{GoodOnsets}
 use Rattle.sheet.specs.Held.{pitch_of}
 use Rattle.trees.specs.ValidTrees.{inside, early, late}
 use Rattle.trees.specs.Instance.{early_count, late_count}
-use Rattle.trees.specs.Onsets.{early_late, onsets_most, onsets_before_lem}
-use Rattle.trees.specs.Order.{early_then_late}
-use Rattle.trees.specs.LeafBounds.{early_most}
+use Rattle.trees.proofs.Onsets.{early_late, onsets_most, onsets_before_lem}
+use Rattle.trees.proofs.OrderLaws.{early_then_late}
+use Rattle.trees.proofs.LeafBoundLaws.{early_most}
 use Rattle.expansions.specs.declared.Interval.{Interval}
 use Rattle.expansions.specs.declared.Placed.{Placed}
 use Rattle.expansions.specs.Tables.{last_unit}

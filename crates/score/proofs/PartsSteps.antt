@@ -15,10 +15,12 @@ use Rattle.derivations.specs.Derivation.{Item, derive}
 use Rattle.trees.specs.ValidTrees.{adjoining, placed_from}
 use Rattle.trees.specs.Instance.{instance_of}
 use Rattle.trees.specs.Expansions.{may_divide_lem, parts_whole}
-use Rattle.trees.specs.Onsets.{divided_long}
-use Rattle.trees.specs.Room.{good_division}
-use Rattle.trees.specs.Leaves.{leaves_from, leaves_divided}
-use Rattle.trees.specs.LeafBounds.{InOneBar, part_in_bar}
+use Rattle.trees.proofs.Onsets.{divided_long}
+use Rattle.trees.proofs.RoomLaws.{good_division}
+use Rattle.trees.specs.Leaves.{leaves_from}
+use Rattle.trees.proofs.LeafLaws.{leaves_divided}
+use Rattle.trees.specs.LeafBounds.{InOneBar}
+use Rattle.trees.proofs.LeafBoundLaws.{part_in_bar}
 use Rattle.expansions.specs.declared.Interval.{Interval}
 use Rattle.expansions.specs.Items.{interval, item_of}
 use Rattle.score.specs.declared.tree.Place.{Place}

@@ -16,7 +16,8 @@ use Rattle.derivations.specs.Derivation.{Item, Expansion, Price, derive, Onto, d
 use Rattle.trees.specs.ValidTrees.{rule_at, adjoining, may_divide, late, placed_from}
 use Rattle.trees.specs.Instance.{late_count, at_leaf, at_division, instance_of}
 use Rattle.trees.specs.Expansions.{Step, step_of}
-use Rattle.trees.specs.Leaves.{leaves_from, leaves_leaf}
+use Rattle.trees.specs.Leaves.{leaves_from}
+use Rattle.trees.proofs.LeafLaws.{leaves_leaf}
 use Rattle.expansions.specs.declared.Interval.{Interval}
 use Rattle.expansions.specs.Tables.{unpacked_of, cell_of}
 use Rattle.expansions.specs.RuleCells.{leaf≢division}

@@ -12,14 +12,15 @@ use Rattle.sheet.specs.declared.table.PlayingTable.{PlayingTable}
 use Rattle.sheet.specs.Sheet.{Grammar, Sheet}
 use Rattle.sheet.specs.Held.{grammar_table, playing_table}
 use Rattle.sheet.specs.Outcome.{Outcome, refused, accepted}
-use Rattle.sheet.specs.Accepted.{SheetHeld, on_refused, on_held}
+use Rattle.sheet.specs.Accepted.{SheetHeld}
+use Rattle.sheet.proofs.AcceptedLaws.{on_refused, on_held}
 use Rattle.sheet.specs.declared.table.Reading.{Reading}
 use Rattle.sheet.specs.Reading.{read_sheet}
 use Rattle.sheet.specs.Held.{reading_of}
 use Rattle.trees.specs.ValidTrees.{ValidTree, total_of}
 use Rattle.trees.specs.ValidTrees as trees
 use Rattle.trees.specs.Room.{tree_most}
-use Rattle.trees.specs.Theorems.{nodes_most}
+use Rattle.trees.proofs.Theorems.{nodes_most}
 use Rattle.expansions.specs.Tables.{PackedRules, RulesHeld}
 use Rattle.pricing.specs.declared.Priced.{Priced}
 use Rattle.pricing.specs.Pricing.{priced, no_tree, price_sheet, priced_of}

@@ -16,7 +16,7 @@ use Rattle.trees.specs.Leaves.{leaves_from}
 use Rattle.pricing.specs.Pricing.{priced, no_tree, price_sheet}
 use Rattle.score.specs.Score.{head_line, leaf_line, leaf_lines, score_text, tree_text}
 use Rattle.sheet.specs.Outcome.{Outcome, refused, accepted}
-use Rattle.sheet.specs.Accepted.{on_sheet_lem}
+use Rattle.sheet.proofs.AcceptedLaws.{on_sheet_lem}
 use Rattle.score.specs.Writing.{no_room, text_within, write_priced, write_sheet, write_text}
 
 -- the three lines

@@ -10,7 +10,8 @@ use Rattle.sheet.specs.Sheet.{Rule, division, leaf, Onset, Sheet}
 use Rattle.derivations.specs.Derivation.{Item}
 use Rattle.trees.specs.ValidTrees.{Forest, written, written_all, rule_at, late, Leaf, by_leaf, by_division}
 use Rattle.trees.specs.ValidTrees.{ParsedAll, empty_forest, next_tree, placed_from, ValidTree}
-use Rattle.trees.specs.Leaves.{leaves_of, entries_of, leaves_of_lem}
+use Rattle.trees.specs.Leaves.{leaves_of, entries_of}
+use Rattle.trees.proofs.LeafLaws.{leaves_of_lem}
 
 abbrev pub is_leaf : Option Rule → ℕ
 is_leaf none = 0

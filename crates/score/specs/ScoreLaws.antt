@@ -9,8 +9,9 @@ use Rattle.hextext.specs.Fields.{length-big_endian}
 use Rattle.sheet.specs.Sheet.{Sheet}
 use Rattle.sheet.specs.Good.{GoodOnsets}
 use Rattle.trees.specs.ValidTrees.{Entry, ValidTree}
-use Rattle.trees.specs.Placing.{all_placed}
-use Rattle.trees.specs.Leaves.{entries_of, entries_place_all}
+use Rattle.trees.proofs.Placing.{all_placed}
+use Rattle.trees.specs.Leaves.{entries_of}
+use Rattle.trees.proofs.LeafLaws.{entries_place_all}
 use Rattle.score.specs.Score.{head_line, ScoreLeaf, leaf_front, leaf_line, leaf_lines, score_text, score_leaf, entry_lines, tree_text}
 
 -- the length of score lines with so many leaves and so many onsets placed

@@ -9,9 +9,10 @@ use Rattle.std.proofs.lemmas.Bool.{lt-leb}
 use Rattle.slices.specs.Over.{over-drop}
 use Rattle.sheet.specs.Sheet.{Sheet}
 use Rattle.sheet.specs.Outcome.{Outcome, refused, accepted}
-use Rattle.sheet.specs.Accepted.{Refuses, Accepts, on_refusal, on_sheet_lem}
+use Rattle.sheet.specs.Accepted.{Refuses, Accepts}
+use Rattle.sheet.proofs.AcceptedLaws.{on_refusal, on_sheet_lem}
 use Rattle.trees.specs.ValidTrees.{Leaf, entries, ValidTree, Priced, total_of}
-use Rattle.trees.specs.Leaves.{leaves_of_lem}
+use Rattle.trees.proofs.LeafLaws.{leaves_of_lem}
 use Rattle.pricing.specs.Pricing.{Figures, price_sheet}
 use Rattle.pricing.specs.PricingLaws.{tree_priced, none_refused}
 use Rattle.pricing.specs.PriceLaws.{valid_or_not}

@@ -16,8 +16,8 @@ use Rattle.derivations.specs.Interchange.{Interchangeable, interchangeable_item,
 use Rattle.trees.specs.ValidTrees.{adjoining, bars}
 use Rattle.trees.specs.Instance.{instance_of}
 use Rattle.trees.specs.LeastTotal.{NONE, carries, cell_of, least_total}
-use Rattle.trees.specs.Laws.{lawful, adjoining-append}
-use Rattle.trees.specs.Found.{cells_least}
+use Rattle.trees.proofs.Laws.{lawful, adjoining-append}
+use Rattle.trees.proofs.Found.{cells_least}
 use Rattle.rows.specs.Vectors.{vec, Low}
 use Rattle.rows.specs.VectorLaws.{vec_at, only_low, lowest_same}
 use Rattle.rows.specs.PackedLaws.{packed_cell, packed_cell_is}

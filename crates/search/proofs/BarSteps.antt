@@ -16,9 +16,9 @@ use Rattle.derivations.specs.First.{First}
 use Rattle.derivations.specs.Interchange.{Interchangeable, first_interchanged, cell_below}
 use Rattle.trees.specs.Instance.{instance_of}
 use Rattle.trees.specs.LeastTotal.{NONE, cell_of}
-use Rattle.trees.specs.Laws.{lawful}
+use Rattle.trees.proofs.Laws.{lawful}
 use Rattle.trees.specs.Room.{room}
-use Rattle.trees.specs.Found.{cells_least}
+use Rattle.trees.proofs.Found.{cells_least}
 use Rattle.rows.specs.declared.slots.Bar.{Bar}
 use Rattle.rows.specs.Vectors.{vec}
 use Rattle.rows.specs.Memo.{row_at}

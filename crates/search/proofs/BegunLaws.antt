@@ -12,7 +12,7 @@ use Rattle.sheet.specs.Good.{GoodRules}
 use Rattle.derivations.specs.Derivation.{Item}
 use Rattle.derivations.specs.Minima.{lowest, lowest_at, only_below}
 use Rattle.trees.specs.Instance.{onsets_in}
-use Rattle.trees.specs.Onsets.{onsets-add, onsets_before_lem}
+use Rattle.trees.proofs.Onsets.{onsets-add, onsets_before_lem}
 use Rattle.trees.specs.LeastTotal.{NONE, carries, cell_of}
 use Rattle.expansions.specs.Items.{first_at}
 use Rattle.rows.specs.CarryLaws.{carry_most}

@@ -22,9 +22,10 @@ use Rattle.derivations.specs.Interchange.{Interchangeable, first_interchanged, f
 use Rattle.trees.specs.ValidTrees.{bars}
 use Rattle.trees.specs.Instance.{instance_of}
 use Rattle.trees.specs.LeastTotal.{NONE, carries, cell_of}
-use Rattle.trees.specs.Laws.{lawful}
-use Rattle.trees.specs.Room.{room, room_pays, bars_room}
-use Rattle.trees.specs.Found.{cells_least}
+use Rattle.trees.proofs.Laws.{lawful}
+use Rattle.trees.specs.Room.{room}
+use Rattle.trees.proofs.RoomLaws.{room_pays, bars_room}
+use Rattle.trees.proofs.Found.{cells_least}
 use Rattle.sizes.specs.Sizes.{tree_bytes}
 use Rattle.building.specs.Clauses.{Partway, BuiltAs}
 use Rattle.building.specs.RebuildLaws.{partway_done}

@@ -21,8 +21,9 @@ use Rattle.derivations.specs.Bound.{nodes_bound}
 use Rattle.trees.specs.ValidTrees.{bars}
 use Rattle.trees.specs.Instance.{instance_of}
 use Rattle.trees.specs.LeastTotal.{least_total}
-use Rattle.trees.specs.Room.{tree_most, room, room_pays, bars_room}
-use Rattle.trees.specs.Found.{first_is_tree, first_total_is}
+use Rattle.trees.specs.Room.{tree_most, room}
+use Rattle.trees.proofs.RoomLaws.{room_pays, bars_room}
+use Rattle.trees.proofs.Found.{first_is_tree, first_total_is}
 use Rattle.sizes.specs.Sizes.{largest, most_in_bar, tree_bytes, work_cells}
 use Rattle.sizes.specs.SizesLaws.{length_count_least, length_count_most, most_in_bar_most}
 use Rattle.expansions.specs.Tables.{unit_cells}

@@ -3,8 +3,6 @@ pub mod Outcome
 pub mod Reading
 pub mod Clock
 pub mod Nearest
-pub mod BarLines
-pub mod EvenLines
 pub mod Held
 pub mod Children
 pub mod Good
@@ -12,15 +10,11 @@ pub mod SoFar
 pub mod Laws
 pub mod PlayingLaws
 pub mod TapRefusals
-pub mod GoodBars
-pub mod GoodLines
-pub mod GoodLaws
 pub mod Bounds
 pub mod Numbers
 pub mod Accepted
 pub mod Multiplier
 pub mod HeadLines
-pub mod MultiplierLaws
 pub mod Demands
 pub mod Rest
 pub mod Literal

@@ -16,7 +16,7 @@ use Rattle.sheet.specs.Sheet.{Onset, Playing, bar_units, bar_of, in_bar}
 use Rattle.sheet.specs.Held.{playing_table, units, units_of}
 use Rattle.sheet.specs.Good.{Rising, GoodOnsets}
 use Rattle.sheet.specs.Clock.{div_mono}
-use Rattle.sheet.specs.GoodLines.{in_bar_more}
+use Rattle.sheet.proofs.GoodLines.{in_bar_more}
 use Rattle.sizes.specs.Sizes.{largest, most_in_bar}
 use Rattle.sizes.specs.Members.{by_equal}
 

@@ -12,7 +12,7 @@ use Rattle.sheet.specs.Outcome.{Outcome, refused, accepted}
 use Rattle.sheet.specs.Reading.{read_sheet}
 use Rattle.sheet.specs.Held.{micros, playing_table, timing_table, reading_of, Reads}
 use Rattle.sheet.specs.Good.{GoodTiming}
-use Rattle.sheet.specs.GoodLaws.{good, good_timing}
+use Rattle.sheet.proofs.GoodLaws.{good, good_timing}
 use Rattle.sheet.specs.Bounds.{refused_within}
 
 -- the moment at place i of the bar lines

@@ -10,8 +10,8 @@ use Rattle.hextext.specs.Text.{lines}
 use Rattle.sheet.specs.Sheet.{Timing, TimedSheet, line_at, lasting, even_lines}
 use Rattle.sheet.specs.Outcome.{Outcome, refused, accepted}
 use Rattle.sheet.specs.Reading.{byte, four, is_tapped, even_of, read_sheet}
-use Rattle.sheet.specs.GoodLaws.{good_timing}
-use Rattle.sheet.specs.EvenLines.{even_count, even_at}
+use Rattle.sheet.proofs.GoodLaws.{good_timing}
+use Rattle.sheet.proofs.EvenLines.{even_count, even_at}
 use Rattle.sheet.specs.OnsetLines.{playing_line, taps_of, timing_by, timing_read}
 use Rattle.tempo.specs.declared.between.Tempo.{Tempo}
 use Rattle.tempo.specs.declared.between.Tempo.TheVariants.{Steady, Faster, Slower}

@@ -2,7 +2,7 @@
 use mathlib.Core.Path.{sym, ◌∙◌}
 use native.Mathlib.Omega.{arith}
 use Rattle.trees.specs.Instance.{instance_of}
-use Rattle.trees.specs.Laws.{lawful}
+use Rattle.trees.proofs.Laws.{lawful}
 use Rattle.trees.specs.ValidTrees.{rule_at}
 use Rattle.expansions.specs.RuleCells.{leaf_rule}
 use Rattle.expansions.proofs.ExpandSteps.{leaf_other, leaf_as, division_as, division_not}

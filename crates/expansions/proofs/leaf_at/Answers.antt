@@ -3,7 +3,7 @@ use mathlib.Core.Path.{refl, sym, ap, ◌∙◌}
 use Prim.Native.Nat.{◌+◌}
 use native.Mathlib.Omega.{arith}
 use Rattle.trees.specs.ValidTrees.{token}
-use Rattle.trees.specs.Onsets.{onsets_most, early_late}
+use Rattle.trees.proofs.Onsets.{onsets_most, early_late}
 use Rattle.expansions.specs.Items.{first_at}
 use Rattle.expansions.proofs.leaf_at.Goals as goal
 
@@ -14,8 +14,7 @@ place-placed-requires c =
 pub returns-then-late-gt3 : goal.returns-then-late-gt3
 returns-then-late-gt3 c =
     let place = c.place-placed in
-    let if1 = c.if-late-gt3 in
-    λ s h few kind. absurd (let p = place.ensures s h.here in omega (arith, if1.true, p.late))
+    λ s h few kind. absurd (let p = place.ensures s h.here in omega (arith, p.late))
 
 pub overflow_add-carried : goal.overflow_add-carried
 overflow_add-carried c =
@@ -45,10 +44,9 @@ returns-then-n-token_of c =
 pub returns : goal.returns
 returns c =
     let place = c.place-placed in
-    let if1 = c.if-late-gt3 in
     let token-of = c.token_of in
     let if2 = c.if-n-token_of in
     let placed = c.args.carried + place.result.early in
     λ s h. let p = place.ensures s h.here in
     let kind = if2.false ∙ token-of.ensures ∙ ap (token placed) h.here.first in
-    (refl, record { counts = p; kind = kind; few = omega (arith, if1.false) })
+    (refl, record { counts = p; kind = kind; few = omega arith })

@@ -1,5 +1,5 @@
 -- `find` meets its contract: reading's refusal, or what `find_sheet` gives of the sheet that the text means. Assumes nothing.
-use Rattle.sheet.specs.Accepted.{held_sheet}
+use Rattle.sheet.proofs.AcceptedLaws.{held_sheet}
 use Rattle.finding.proofs.FindSteps.{text_refused, text_found}
 use Rattle.finding.proofs.find.Goals as goal
 

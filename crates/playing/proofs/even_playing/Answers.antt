@@ -14,7 +14,7 @@ use Rattle.sheet.specs.Reading.{playing_refusal, in_taps, in_onsets}
 use Rattle.sheet.specs.Rest.{read_rest}
 use Rattle.sheet.specs.Held.{LineHeld}
 use Rattle.sheet.specs.Good.{GoodTiming}
-use Rattle.sheet.specs.GoodBars.{even_good}
+use Rattle.sheet.proofs.GoodBars.{even_good}
 use Rattle.bar_lines.specs.Lines.{lines_in}
 use Rattle.playing.specs.Clauses.{TakeRead}
 use Rattle.playing.proofs.HeadLine.{head_held, head_within, head_passed, head_on}

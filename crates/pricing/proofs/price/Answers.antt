@@ -1,6 +1,6 @@
 -- `price` meets its contract: reading's refusal, or what `price_sheet` gives of the sheet that the text means. Assumes nothing.
 use mathlib.Core.Path.{◌≡◌, sym, ap, ◌∙◌}
-use Rattle.sheet.specs.Accepted.{on_refused, on_held, held_sheet}
+use Rattle.sheet.proofs.AcceptedLaws.{on_refused, on_held, held_sheet}
 use Rattle.pricing.specs.Pricing.{price_sheet, price_text, priced_of}
 use Rattle.pricing.proofs.price.Goals as goal
 

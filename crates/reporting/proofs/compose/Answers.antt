@@ -1,6 +1,6 @@
 -- `compose` meets its contract: the line of reading's refusal, or what `compose_sheet` gives of the sheet that the text means. Assumes
 -- nothing.
-use Rattle.sheet.specs.Accepted.{held_sheet}
+use Rattle.sheet.proofs.AcceptedLaws.{held_sheet}
 use Rattle.reporting.proofs.ReportSteps.{text_refused, text_reported}
 use Rattle.reporting.proofs.compose.Goals as goal
 

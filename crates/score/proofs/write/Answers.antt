@@ -1,5 +1,5 @@
 -- `write` meets its contract: reading's refusal, or what `write_sheet` does with the sheet that the text means. Assumes nothing.
-use Rattle.sheet.specs.Accepted.{held_sheet}
+use Rattle.sheet.proofs.AcceptedLaws.{held_sheet}
 use Rattle.score.proofs.WriteSteps.{text_refused, text_written}
 use Rattle.score.proofs.write.Goals as goal
 

@@ -8,7 +8,7 @@ use Rattle.sheet.specs.Sheet.{no_playing, even_lines}
 use Rattle.sheet.specs.Reading.{in_taps, in_onsets}
 use Rattle.sheet.specs.Rest.{read_rest}
 use Rattle.sheet.specs.Good.{GoodTiming}
-use Rattle.sheet.specs.GoodBars.{even_good}
+use Rattle.sheet.proofs.GoodBars.{even_good}
 use Rattle.bar_lines.specs.Lines.{BarsRead}
 use Rattle.bar_lines.proofs.taps.read_bars.Goals as goal
 

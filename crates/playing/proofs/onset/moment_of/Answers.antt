@@ -5,10 +5,10 @@ use Rattle.playing.proofs.onset.moment_of.Goals as goal
 
 -- before the one before
 pub returns-then-t-before : goal.returns-then-t-before
-returns-then-t-before c = refused c.refused_moment.ensures (λ z. omega arith) (falls _ _ _ _ (omega (arith, c.if-t-before.true)))
+returns-then-t-before c = refused c.refused_moment.ensures (λ z. omega arith) (falls _ _ _ _ (omega arith))
 
 pub searched_moment-requires : goal.searched_moment-requires
-searched_moment-requires c = (c.requires.0, (c.args.last.0, omega (arith, c.if-t-before.false), c.requires.1))
+searched_moment-requires c = (c.requires.0, (c.args.last.0, omega arith, c.requires.1))
 
 pub returns : goal.returns
-returns c = c.searched_moment.ensures _ (omega (arith, c.if-t-before.false))
+returns c = c.searched_moment.ensures _ (omega arith)

@@ -1,17 +1,17 @@
 -- `tempo_between` meets its contract: at each return the tests that led there pick the definition's case. Assumes nothing.
-use mathlib.Core.Path.{sym, ◌∙◌}
+use mathlib.Core.Path.{refl, sym, ◌∙◌}
 use borrow.Author.Tests.{lt-ltb, le-ltb}
 use Rattle.tempo.proofs.between.tempo_between.Goals as goal
 
 pub returns-then-not-in_range : goal.returns-then-not-in_range
-returns-then-not-in_range c = simp (sym c.in_range.ensures ∙ c.if-not-in_range.true)
+returns-then-not-in_range c = simp (sym c.in_range.ensures ∙ c.if-not-in_range.true) refl
 
 pub returns-then-not-in_range-2 : goal.returns-then-not-in_range-2
 returns-then-not-in_range-2 c =
     simp (
       sym c.in_range.ensures ∙ c.if-not-in_range.false,
       sym c.in_range-2.ensures ∙ c.if-not-in_range-2.true,
-    )
+    ) refl
 
 pub returns-then-a2-a1 : goal.returns-then-a2-a1
 returns-then-a2-a1 c =
@@ -20,7 +20,7 @@ returns-then-a2-a1 c =
       sym c.in_range-2.ensures ∙ c.if-not-in_range-2.false,
       lt-ltb _ _ c.if-a2-a1.true,
       sym c.percentage.ensures,
-    )
+    ) refl
 
 pub returns-then-a1-a2 : goal.returns-then-a1-a2
 returns-then-a1-a2 c =
@@ -30,7 +30,7 @@ returns-then-a1-a2 c =
       le-ltb _ _ c.if-a2-a1.false,
       lt-ltb _ _ c.if-a1-a2.true,
       sym c.percentage-then-a1-a2.ensures,
-    )
+    ) refl
 
 -- they are equal
 pub returns : goal.returns
@@ -40,4 +40,4 @@ returns c =
       sym c.in_range-2.ensures ∙ c.if-not-in_range-2.false,
       le-ltb _ _ c.if-a2-a1.false,
       le-ltb _ _ c.if-a1-a2.false,
-    )
+    ) refl

@@ -2,7 +2,7 @@
 -- Assumes nothing.
 use mathlib.Core.Path.{sym, ap, ◌∙◌}
 use Rattle.sheet.specs.Outcome.{accepted}
-use Rattle.sheet.specs.Accepted.{refused_reading}
+use Rattle.sheet.proofs.AcceptedLaws.{refused_reading}
 use Rattle.tempo.specs.Tempo.{record_at, remark_of}
 use Rattle.tempo.specs.TempoLaws.{on_refused, on_accepted}
 use Rattle.tempo.specs.Clauses.{accepted_timing}

@@ -9,7 +9,7 @@ use Rattle.sheet.specs.Sheet.{Grammar, no_playing, line_at, even_lines, in_bar}
 use Rattle.sheet.specs.Reading.{byte, two, four, playing_refusal, playing_of, is_tapped, even_of, tap_refusal, in_taps, in_onsets, after_head}
 use Rattle.sheet.specs.Reading.{after_tap}
 use Rattle.sheet.specs.Clock.{end_fits}
-use Rattle.sheet.specs.EvenLines.{even_count, even_at}
+use Rattle.sheet.proofs.EvenLines.{even_count, even_at}
 use Rattle.sheet.specs.Good.{GoodRules, GoodOnsets, GoodSteps, GoodTiming}
 use Rattle.sheet.specs.SoFar.{GoodTaps, GoodProgress}
 use Rattle.sheet.specs.PlayingLaws.{PlayingPassed, playing_passed, tap_passed}

@@ -11,7 +11,8 @@ use Rattle.trees.specs.ValidTrees.{ParsedAll, empty_forest, next_tree, Entry, pl
 use Rattle.trees.specs.ValidTrees.{distance_of}
 use Rattle.trees.specs.Instance.{own_distance}
 use Rattle.trees.specs.Expansions.{may_divide_lem, parts_whole}
-use Rattle.trees.specs.Order.{within, within-append, within_none, within_all, early_then_late}
+use Rattle.trees.specs.Order.{within}
+use Rattle.trees.proofs.OrderLaws.{within-append, within_none, within_all, early_then_late}
 
 -- ---- intervals in a row
 

@@ -14,8 +14,8 @@ use Rattle.derivations.specs.Cells.{Falls}
 use Rattle.trees.specs.ValidTrees.{adjoining, rule_at, may_divide}
 use Rattle.trees.specs.Instance.{at_leaf, at_division, instance_of}
 use Rattle.trees.specs.Expansions.{Step, step_of}
-use Rattle.trees.specs.Onsets.{divided_long}
-use Rattle.trees.specs.Room.{good_division}
+use Rattle.trees.proofs.Onsets.{divided_long}
+use Rattle.trees.proofs.RoomLaws.{good_division}
 
 -- a property of the intervals in a row, by their places
 pub adjoining_every : (X : Item → Type 0) (l p : ℕ) (qs : List ℕ)

@@ -3,7 +3,7 @@ use Rattle.std.specs.Prelude.{ℕ, zero, suc, ◌+◌, ◌-◌, ◌*◌, ◌/◌
 use Rattle.std.proofs.Common.{◌∙◌, arith, div-mul-le_self, div-lt_iff_lt-mul, lt-suc_self, lt_of_mul-lt-mul_right}
 use Rattle.sheet.specs.Sheet.{Timing, bar_units, unit_of, line_at, lasting, unit_in, even_from, even_lines}
 use Rattle.sheet.specs.Nearest.{unit_rounded, rounded_unit}
-use Rattle.sheet.specs.BarLines.{Rising, unit_at_lem}
+use Rattle.sheet.proofs.BarLines.{Rising, unit_at_lem}
 
 even_from_count : (bars d from : ℕ) → length (even_from bars d from) ≡ bars + 1
 unfolding even_from

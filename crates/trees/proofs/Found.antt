@@ -18,8 +18,8 @@ use Rattle.trees.specs.ValidTrees.{bars, ValidTree, Priced, total_of}
 use Rattle.trees.specs.Instance.{instance_of, Derived}
 use Rattle.trees.specs.LeastTrees.{InDictionaryOrder, FirstTree}
 use Rattle.trees.specs.LeastTotal.{NONE, carries, cell_of, least_total}
-use Rattle.trees.specs.Laws.{lawful, falls}
-use Rattle.trees.specs.Equivalence.{valid_derived, derived_valid}
+use Rattle.trees.proofs.Laws.{lawful, falls}
+use Rattle.trees.proofs.Equivalence.{valid_derived, derived_valid}
 
 -- a valid list has its own R and D
 pub own_price : (s : Sheet) (bs : List ℕ) → ValidTree s bs → (R : ℕ) × (D : ℕ) × Priced s bs R D

@@ -13,9 +13,9 @@ use Rattle.sheet.specs.Multiplier.{with_multiplier}
 use Rattle.derivations.specs.Derivation.{Item, Instance, derive}
 use Rattle.trees.specs.ValidTrees.{rule_at, bars, weight_at, ValidTree, Priced}
 use Rattle.trees.specs.Instance.{expand_by, instance_of, Derived}
-use Rattle.trees.specs.Equivalence.{valid_derived, derived_valid}
+use Rattle.trees.proofs.Equivalence.{valid_derived, derived_valid}
 use Rattle.trees.specs.LeastTrees.{LeastTree, FirstTree, same_place, one_first_tree}
-use Rattle.trees.specs.Found.{own_price}
+use Rattle.trees.proofs.Found.{own_price}
 
 -- "With a of 1 or more, no valid tree has R and D both as small as the tree found and one of them smaller": where both are as small, both
 -- are the same

@@ -11,8 +11,8 @@ use Rattle.trees.specs.ValidTrees.{Forest, node, cons, nil, written, written_all
 use Rattle.trees.specs.ValidTrees.{by_leaf, by_division, ParsedAll, empty_forest, next_tree, placed_from, carried_out, rule_weight}
 use Rattle.trees.specs.Instance.{at_leaf, at_division, instance_of}
 use Rattle.trees.specs.Expansions.{LeafStep, DivisionStep, Step, step_of}
-use Rattle.trees.specs.Placing.{own_distances}
-use Rattle.trees.specs.Fits.{Fits, price_from}
+use Rattle.trees.proofs.Placing.{own_distances}
+use Rattle.trees.proofs.Fits.{Fits, price_from}
 
 -- a forest over two rows of items is two forests
 record Split (s : Sheet) (g₁ g₂ : List Item) (bytes : List ℕ) (leaves : List Leaf) : Type 0 where

@@ -9,8 +9,8 @@ use Rattle.derivations.specs.Derivation.{Item}
 use Rattle.trees.specs.ValidTrees.{Tree, Forest, node, nil, cons, bars, Leaf, by_leaf, by_division, ParsedAll, empty_forest, next_tree}
 use Rattle.trees.specs.ValidTrees.{ValidTree}
 use Rattle.trees.specs.Depth.{depth, depth_bar}
-use Rattle.trees.specs.Room.{division_deep}
-use Rattle.trees.specs.Laws.{adjoining_every}
+use Rattle.trees.proofs.RoomLaws.{division_deep}
+use Rattle.trees.proofs.Laws.{adjoining_every}
 
 -- over the trees below a root: one for the root's division, none where there is no tree
 abbrev under : Forest → ℕ → ℕ

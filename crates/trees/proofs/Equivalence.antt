@@ -12,9 +12,9 @@ use Rattle.trees.specs.ValidTrees.{by_division}
 use Rattle.trees.specs.ValidTrees.{ParsedAll, empty_forest, next_tree, placed_from, carried_out, ValidTree, rule_weight, Priced}
 use Rattle.trees.specs.Instance.{at_leaf, at_division, instance_of, Derived}
 use Rattle.trees.specs.Expansions.{LeafStep, DivisionStep, leaf_expands, division_expands}
-use Rattle.trees.specs.Placing.{own_distances, distance_own}
-use Rattle.trees.specs.Fits.{Fits, price_from, fits_split, price_append}
-use Rattle.trees.specs.Readings.{Reading, derived_read}
+use Rattle.trees.proofs.Placing.{own_distances, distance_own}
+use Rattle.trees.proofs.Fits.{Fits, price_from, fits_split, price_append}
+use Rattle.trees.proofs.Readings.{Reading, derived_read}
 
 -- ---- a forest that fits is derived
 

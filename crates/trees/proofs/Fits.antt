@@ -9,7 +9,7 @@ use Rattle.slices.specs.Every.{Every}
 use Rattle.sheet.specs.Sheet.{Onset, Sheet}
 use Rattle.derivations.specs.Derivation.{Price, ◌⊞◌, price_eq}
 use Rattle.trees.specs.ValidTrees.{late, Leaf, placed_from, carried_out, FewLate, KindFits, rule_weight}
-use Rattle.trees.specs.Placing.{own_distances, own_distances-append}
+use Rattle.trees.proofs.Placing.{own_distances, own_distances-append}
 
 -- at most three are late at each leaf, and the kinds fit, when `carried` is carried into the first
 pub record Fits (s : Sheet) (carried : List Onset) (leaves : List Leaf) : Type 0 where

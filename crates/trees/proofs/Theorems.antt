@@ -13,13 +13,15 @@ use Rattle.derivations.specs.Least.{rules_below, carry_fits}
 use Rattle.trees.specs.ValidTrees.{bars, ValidTree, Priced, total_of}
 use Rattle.trees.specs.Instance.{instance_of, Derived}
 use Rattle.trees.specs.LeastTotal.{NONE, least_total}
-use Rattle.trees.specs.Room.{room, room_pays, bars_room, Stretch, stretch_bars, stretch_front, stretch_expands, stretch_at}
-use Rattle.trees.specs.Room.{tree_most, total_small}
-use Rattle.trees.specs.Laws.{lawful}
-use Rattle.trees.specs.Intervals.{Occurs, bar, part}
+use Rattle.trees.specs.Room.{room, Stretch}
+use Rattle.trees.proofs.RoomLaws.{room_pays, bars_room, stretch_bars, stretch_front, stretch_expands, stretch_at}
+use Rattle.trees.specs.Room.{tree_most}
+use Rattle.trees.proofs.RoomLaws.{total_small}
+use Rattle.trees.proofs.Laws.{lawful}
+use Rattle.trees.proofs.IntervalLaws.{Occurs, bar, part}
 use Rattle.trees.specs.LeastTrees.{FirstTree}
-use Rattle.trees.specs.Found.{own_price, first_tree, least_total_below}
-use Rattle.trees.specs.Equivalence.{valid_derived}
+use Rattle.trees.proofs.Found.{own_price, first_tree, least_total_below}
+use Rattle.trees.proofs.Equivalence.{valid_derived}
 
 -- the numbers of a valid tree are rule numbers; so they are bytes, a sheet having at most 64 rules (of any sheet)
 pub valid_bytes : (s : Sheet) (bs : List ℕ) → ValidTree s bs → Every (λ r. r < length s.grammar.rules) bs

@@ -13,7 +13,8 @@ use Rattle.sheet.specs.Sheet.{Onset, Sheet}
 use Rattle.trees.specs.ValidTrees.{whose, contains, is_early, inside, early, late, onsets_before, may_divide, apart, distance_to}
 use Rattle.trees.specs.Instance.{onsets_in, early_count, late_count, own_distance}
 use Rattle.trees.specs.Expansions.{may_divide_lem}
-use Rattle.trees.specs.Order.{Parts, whose_both, within, intervals, halves}
+use Rattle.trees.specs.Order.{Parts, within}
+use Rattle.trees.proofs.OrderLaws.{whose_both, intervals, halves}
 
 -- ---- lists of onsets that pass a test
 

@@ -11,8 +11,8 @@ use Rattle.sheet.specs.Reading.{Progress, nothing, in_rules, in_taps, in_onsets,
 use Rattle.sheet.specs.Good.{GoodTiming, Good}
 use Rattle.sheet.specs.SoFar.{GoodProgress}
 use Rattle.sheet.specs.Laws.{read_on, read_stop, too_long, ill_formed, well_formed}
-use Rattle.sheet.specs.GoodBars.{line_small}
-use Rattle.sheet.specs.GoodLines.{good_after}
+use Rattle.sheet.proofs.GoodBars.{line_small}
+use Rattle.sheet.proofs.GoodLines.{good_after}
 
 -- what holds of an accepted text: of its sheet and of its timing
 abbrev GoodText : TimedSheet → Type 0

@@ -13,7 +13,7 @@ use Rattle.slices.specs.Test.{and_both}
 use Rattle.sheet.specs.Sheet.{Sheet, TimedSheet}
 use Rattle.sheet.specs.Outcome.{Outcome, refused, accepted}
 use Rattle.sheet.specs.Good.{Good}
-use Rattle.sheet.specs.GoodLaws.{good}
+use Rattle.sheet.proofs.GoodLaws.{good}
 use Rattle.sheet.specs.Reading.{read_sheet}
 use Rattle.derivations.specs.Derivation.{Price, derive, price_eq}
 use Rattle.trees.specs.ValidTrees.{bars, ValidTree, Priced, total_of}
@@ -21,10 +21,10 @@ use Rattle.trees.specs.Instance.{instance_of, Derived}
 use Rattle.trees.specs.LeastTotal.{NONE, least_total}
 use Rattle.trees.specs.Cases.{Verdict, least, no_tree_lem, priced, no_valid, Case, priced_as, is_tree, judged, judged_of}
 use Rattle.trees.specs.Cases.{holds, cases, all_computed}
-use Rattle.trees.specs.Equivalence.{valid_derived, derived_valid}
+use Rattle.trees.proofs.Equivalence.{valid_derived, derived_valid}
 use Rattle.trees.specs.LeastTrees.{LeastTree}
-use Rattle.trees.specs.Found.{own_price, least_total_below}
-use Rattle.trees.specs.Theorems.{none_valid}
+use Rattle.trees.proofs.Found.{own_price, least_total_below}
+use Rattle.trees.proofs.Theorems.{none_valid}
 
 -- what a verdict says of a sheet
 abbrev pub Says : Sheet → Verdict → Type 0

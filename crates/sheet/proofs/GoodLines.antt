@@ -13,12 +13,12 @@ use Rattle.sheet.specs.Sheet.{Rule, Onset, Grammar, Playing, Timing, bar_units, 
 use Rattle.sheet.specs.Reading.{byte, four, all_below, bytes_from, head_refusal, head_of, division_refusal, division_of, leaf_refusal}
 use Rattle.sheet.specs.Reading.{leaf_of, rule_refusal, rule_of, with_rule, playing_refusal, onset_refusal, onset_of, with_onset, Progress}
 use Rattle.sheet.specs.Reading.{nothing, in_rules, in_taps, in_onsets, rules_refusal, refusal, after_head, after, demand}
-use Rattle.sheet.specs.BarLines.{units_up}
+use Rattle.sheet.proofs.BarLines.{units_up}
 use Rattle.sheet.specs.Good.{Rising, GoodRule, GoodRules}
 use Rattle.sheet.specs.SoFar.{GoodSoFar, GoodProgress}
 use Rattle.sheet.specs.Laws.{length-bytes, demand_zero, cond_zero, head_passed, division_passed, leaf_passed}
 use Rattle.sheet.specs.PlayingLaws.{onset_passed, tap_line_lem, onset_line}
-use Rattle.sheet.specs.GoodBars.{Small, two_small, good_start, good_tap}
+use Rattle.sheet.proofs.GoodBars.{Small, two_small, good_start, good_tap}
 
 -- the test that all are below q, as a property
 every_below : (q : ℕ) (xs : List ℕ) → all_below q xs ≡ true → Every (λ (x : ℕ). x < q) xs

@@ -1,0 +1,9 @@
+pub mod BarLines
+pub mod EvenLines
+pub mod GoodBars
+pub mod GoodLaws
+pub mod GoodLines
+pub mod MultiplierLaws
+pub mod AcceptedLaws
+pub mod UnitsReadLaws
+pub mod TwinLaws

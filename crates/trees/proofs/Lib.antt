@@ -1,0 +1,17 @@
+pub mod CasesHold
+pub mod Equivalence
+pub mod Fits
+pub mod Found
+pub mod Laws
+pub mod Nesting
+pub mod Onsets
+pub mod Placing
+pub mod Readings
+pub mod Sliding
+pub mod Theorems
+pub mod IntervalLaws
+pub mod KindLaws
+pub mod LeafBoundLaws
+pub mod LeafLaws
+pub mod OrderLaws
+pub mod RoomLaws
