@@ -17,6 +17,7 @@ WORD = re.compile(r'[^\s(){}.;,@"«»\[\]|\x60]+')
 SIGNATURE = re.compile(r"^ *((?:abbrev |unfoldable |pub |ruleset )*)([^\s(){}.;,@\"]+) :(?= |$)", re.M)
 TYPE = re.compile(r"^ *(?:pub )?(?:record|data) ([^\s(){}.;,@\"]+)", re.M)
 QUIET = re.compile(r'"(?:[^"\\\n]|\\.)*"|(?<!\S)--[^\n]*|//[^\n]*')
+CLAUSE = re.compile(r"\b(?:requires|ensures)\*?\s*(?:\w+\s*)?\{|\bghost use\b")
 SPAN = re.compile(r"\x60[^\x60\n]+\x60")
 # The library's words for lists, tests and numbers that lemmas here are about.
 KNOWN = {
@@ -122,6 +123,28 @@ def turn_code(text, rows):
     return "".join(out)
 
 
+def turn_source(text, rows):
+    """Of a source file the clauses and the lines of `ghost use`: the code's own names stay. Of a comment the spans between backticks."""
+    out, at = [], 0
+    for m in CLAUSE.finditer(text):
+        if m.start() < at or "//" in text[text.rfind("\n", 0, m.start()) + 1:m.start()]:
+            continue
+        if m[0].startswith("ghost"):
+            end = text.index(";", m.end())
+        else:
+            end, deep = m.end(), 1
+            while deep:
+                deep += (text[end] == "{") - (text[end] == "}")
+                end += 1
+        out += [comments(text[at:m.start()], rows), turn_code(text[m.start():end], rows)]
+        at = end
+    return "".join(out) + comments(text[at:], rows)
+
+
+def comments(text, rows):
+    return re.sub(r"//[^\n]*", lambda m: SPAN.sub(lambda s: turn(s[0], rows), m[0]), text)
+
+
 def turn_edit(text, rows):
     """The lines of an edit are code; of its comments the place of a refusal."""
     lines = []
@@ -148,7 +171,7 @@ def main(argv):
         for old in sorted(rows):
             print(f"{old}\t{rows[old]}")
         return 0
-    jobs = [(p, turn_code) for p in files(".antt", ".rt")] + [(p, turn_edit) for p in files(".edit")]
+    jobs = [(p, turn_code) for p in files(".antt")] + [(p, turn_source) for p in files(".rt")] + [(p, turn_edit) for p in files(".edit")]
     jobs += [(p, lambda t, r: SPAN.sub(lambda s: turn(s[0], r), t)) for p in pages()]
     for path, how in jobs:
         with open(path, encoding="utf-8") as f:

@@ -66,7 +66,7 @@ fn refused_take(number: u8, line: usize, at: usize) -> Take
 }
 
 // What no onset is held against.
-fn none_before_lem() -> Latest
+fn none_before() -> Latest
     ensures { result ≡ record { time = micros 0; bar = 0; run = 0 } }
 {
     Latest {
@@ -89,7 +89,7 @@ fn read_onsets(
     ensures { (g : Grammar) → OnsetsRead text.now at line g clock lines.now result }
 {
     let mut playing = no_onsets(clock.bars);
-    let mut latest = none_before_lem();
+    let mut latest = none_before();
     let mut at = at;
     let mut line = line;
     let mut n: usize = 0;
@@ -133,7 +133,7 @@ fn read_even(digits: &Digits, text: &[u8], at: usize, clock: Clock, lines: &BarL
         → OnsetsRead text.now at n g clock lines.now result }
 {
     let mut playing = no_onsets(clock.bars);
-    let mut latest = none_before_lem();
+    let mut latest = none_before();
     let mut at = at;
     let mut n: usize = 0;
     while at < text.len() {

@@ -28,7 +28,7 @@ loop-at-init c line few pos =
     let pre = c.requires in
     let same : line ≡ line + 0 = omega arith in
     renumbered same
-    (onsets_none _ _ _ _ _ _ _ pre.1 few pos pre.2 c.no_onsets-playing.ensures c.none_before_lem-latest.ensures)
+    (onsets_none _ _ _ _ _ _ _ pre.1 few pos pre.2 c.no_onsets-playing.ensures c.none_before-latest.ensures)
 
 pub even_step-step-requires : goal.even_step-step-requires
 even_step-step-requires c = (_, c.requires.2)

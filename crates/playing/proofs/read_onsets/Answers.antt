@@ -23,7 +23,7 @@ room c =
 pub loop-at-init : goal.loop-at-init
 loop-at-init c =
     let pre = c.requires in
-    onsets_none _ _ _ _ _ _ _ pre.1 pre.2 pre.3 pre.4 c.no_onsets-playing.ensures c.none_before_lem-latest.ensures
+    onsets_none _ _ _ _ _ _ _ pre.1 pre.2 pre.3 pre.4 c.no_onsets-playing.ensures c.none_before-latest.ensures
 
 pub returns-then-l-eq0 : goal.returns-then-l-eq0
 returns-then-l-eq0 c g =
