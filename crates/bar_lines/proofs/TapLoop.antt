@@ -1,30 +1,35 @@
 -- The loop over the taps: what holds where some have been read, how a line keeps it, and how it ends. Assumes nothing.
 use Prim.Native.Nat.{ℕ, ◌+◌, ◌-◌, ◌<◌, ◌≤◌}
 use mathlib.Core.Path.{◌≡◌, refl, sym, ap, subst, ◌∙◌}
-use mathlib.Core.Bool.{Bool, true}
-use mathlib.Core.List.{List, [], ◌∷◌, ◌++◌}
+use mathlib.Core.Bool.{Bool, true, false, cond}
+use mathlib.Core.List.{List, [], ◌∷◌, ◌++◌, map, map-append}
 use native.Mathlib.Nat.{le_trans, le_of_eq}
 use native.Mathlib.Omega.{arith}
 use lib.ListN.{length, get_or, take, drop, set, length-append}
 use lib.Seq.{get_or_at, take_at}
 use borrow.Author.Tests.{eq-eqb, ne_eqb, lt-ltb, le-ltb}
-use Rattle.slices.specs.Pad.{pad, pad_more, pad-append}
+use Rattle.slices.specs.Pad.{pad, pad-append, pad_map_more}
 use Rattle.hextext.specs.declared.line.Line.{Line}
 use Rattle.hextext.specs.Text.{line_bytes}
 use Rattle.hextext.specs.Packed.{line_read}
 use Rattle.hextext.specs.Laws.{line_within, line_size_pos}
 use Rattle.hextext.specs.PackedLaws.{line_next}
+use Rattle.std.proofs.Common.{Result, Ok, Err}
+use Rattle.std.proofs.lemmas.List.{length-map, map-id}
+use Rattle.std.proofs.lemmas.Simd.{map-map}
+use Rattle.sheet.specs.declared.clock.Micros.{Micros}
 use Rattle.bar_lines.specs.declared.taps.Bars.{Bars}
-use Rattle.sheet.specs.Sheet.{Grammar, Timing, TimedSheet, no_playing}
+use Rattle.sheet.specs.declared.refusal.Stop.{Stop}
+use Rattle.sheet.specs.Sheet.{Grammar, Timing, TimedSheet, no_playing, even_lines}
 use Rattle.sheet.specs.Outcome.{Outcome}
 use Rattle.sheet.specs.Reading.{byte, four, Progress, step_refusal, tap_refusal, in_taps, in_onsets, refusal, after_tap, after}
-use Rattle.sheet.specs.Rest.{read_rest, stopped, rest_end, rest_bad, rest_stop, rest_held, rest_on}
-use Rattle.sheet.specs.Held.{LineHeld, no_grammar}
+use Rattle.sheet.specs.Rest.{read_rest, stopped, Stopped, rest_end, rest_bad, rest_stop, rest_held, rest_on}
+use Rattle.sheet.specs.Held.{LineHeld, micros, moments_in, no_grammar}
 use Rattle.sheet.specs.Good.{GoodSteps, GoodTiming}
 use Rattle.sheet.specs.Laws.{end_in_taps}
 use Rattle.sheet.specs.PlayingLaws.{tap_line_lem}
-use Rattle.sheet.proofs.GoodBars.{line_small, no_steps, steps_more}
-use Rattle.bar_lines.specs.Lines.{lines_in, TapRefused, BarsRead}
+use Rattle.sheet.proofs.GoodBars.{line_small, no_steps, steps_more, even_good}
+use Rattle.bar_lines.specs.Lines.{lines_in, TapRefused, BarsDone, TapsRead, NextRead}
 
 -- a line where a tap is to stand, by its kind, its count and its step
 module _ (g : Grammar) (bars : ℕ) (taps b : List ℕ) where
@@ -47,11 +52,11 @@ module _ (g : Grammar) (bars : ℕ) (taps b : List ℕ) where
       later_tap some = simp (eq-eqb (byte b 0) 0x42 kind, eq-eqb (length b) 5 count, ne_eqb (length taps) 0 some)
 
 -- of the lines from line n, at place `at`, on, those before line n', at place at', have been read as k taps
-pub record TapsSoFar (t : List ℕ) (at n bars : ℕ) (cells : List ℕ) (before at' n' k : ℕ) : Type 0 where
+pub record TapsSoFar (t : List ℕ) (at n bars : ℕ) (cells : List Micros) (before at' n' k : ℕ) : Type 0 where
   pub taps : List ℕ
   pub count : k ≡ length taps
   pub most : k ≤ bars + 1
-  pub cells_are : cells ≡ pad 65 0 taps
+  pub cells_are : cells ≡ pad 65 (micros 0) (map micros taps)
   pub latest : 0 < k → before ≡ get_or taps (k - 1) 0
   pub steps : GoodSteps taps
   pub within : at' ≤ length t
@@ -70,8 +75,8 @@ taps_done : (g : Grammar) (bars : ℕ) (taps : List ℕ) → bars < length taps
 unfolding after_tap
 taps_done g bars taps h = simp (lt-ltb bars (length taps) h)
 
-pub taps_none : (t : List ℕ) (at n bars : ℕ) (cells : List ℕ) (before : ℕ) → at ≤ length t → n ≤ at + 1 → 0 < n
-    → cells ≡ pad 65 0 [] → TapsSoFar t at n bars cells before at n 0
+pub taps_none : (t : List ℕ) (at n bars : ℕ) (cells : List Micros) (before : ℕ) → at ≤ length t → n ≤ at + 1 → 0 < n
+    → cells ≡ pad 65 (micros 0) [] → TapsSoFar t at n bars cells before at n 0
 taps_none t at n bars cells before w l pos e =
     record {
       taps = [];
@@ -86,7 +91,7 @@ taps_none t at n bars cells before w l pos e =
       rest = λ g. ap (λ (r : Progress). read_rest r n (drop at t)) (sym (tap_next g bars [] (omega arith)));
     }
 
-module _ {t : List ℕ} {at n bars : ℕ} {cells : List ℕ} {before at' n' k : ℕ} (h : TapsSoFar t at n bars cells before at' n' k)
+module _ {t : List ℕ} {at n bars : ℕ} {cells : List Micros} {before at' n' k : ℕ} (h : TapsSoFar t at n bars cells before at' n' k)
     (few : bars ≤ 64) where
   abbrev b : List ℕ
   b = line_bytes (drop at' t)
@@ -128,7 +133,7 @@ module _ {t : List ℕ} {at n bars : ℕ} {cells : List ℕ} {before at' n' k : 
 
         -- or taken
         pub taps_more : r ≡ 0 → (x : ℕ) → ((c : List ℕ) → LineHeld l c → x ≡ four c 1)
-            → TapsSoFar t at n bars (set cells k x) x l.next (n' + 1) (k + 1)
+            → TapsSoFar t at n bars (set cells k (micros x)) x l.next (n' + 1) (k + 1)
         unfolding after
         taps_more z x x-is =
             let taps = h.taps in
@@ -142,7 +147,8 @@ module _ {t : List ℕ} {at n bars : ℕ} {cells : List ℕ} {before at' n' k : 
               count = let e = length-append taps (four b 1 ∷ []) in omega (arith, e, c);
               most = omega (arith, missing);
               cells_are =
-                  ap (set cells k) four_is ∙ pad_more 65 0 taps cells k (four b 1) h.cells_are (sym c) (omega (arith, missing, few));
+                  ap (λ v. set cells k (micros v)) four_is
+                  ∙ pad_map_more 65 (micros 0) micros taps (four b 1) cells k h.cells_are (sym c) (omega (arith, missing, few));
               latest = λ _. four_is ∙ sym (get_or_at taps (four b 1) [] 0 (k + 1 - 1) (omega (arith, c)));
               steps = steps_more taps b (line_small b line_held.small) h.steps met;
               within = le_trans (le_of_eq next) (line_within t at' (omega arith));
@@ -158,8 +164,12 @@ module _ {t : List ℕ} {at n bars : ℕ} {cells : List ℕ} {before at' n' k : 
         let c = h.count in
         let most = h.most in
         let n : length h.taps ≡ bars + 1 = omega (arith, c, most, all) in
-        let is = ap (take (bars + 1)) (h.cells_are ∙ pad-append 65 0 h.taps (omega (arith, n, few)))
-        ∙ take_at h.taps _ (bars + 1) n in
+        let size = length-map h.taps micros ∙ n in
+        let is = ap (λ cs. take (bars + 1) (moments_in cs))
+        (h.cells_are ∙ pad-append 65 (micros 0) (map micros h.taps) (omega (arith, size, few)))
+        ∙ ap (take (bars + 1)) (map-append (λ (m : Micros). m.0) (map micros h.taps) _)
+        ∙ take_at (moments_in (map micros h.taps)) _ (bars + 1) (length-map (map micros h.taps) (λ (m : Micros). m.0) ∙ size)
+        ∙ map-map (λ (m : Micros). m.0) micros h.taps ∙ map-id h.taps in
         λ j. record { bar_lines = is j }
 
     pub taps_onsets : (g : Grammar)
@@ -176,16 +186,38 @@ module _ {t : List ℕ} {at n bars : ℕ} {cells : List ℕ} {before at' n' k : 
         subst (GoodTiming bars) (sym cells_in)
         (record { count = let c = h.count in let most = h.most in omega (arith, c, most, all); steps = h.steps })
 
--- what is returned where a line is bad or refused, or none is left
-pub bars_refused : {o : Grammar → Outcome TimedSheet} {t : List ℕ} {bars : ℕ} {tapped : Bool} {number line place : ℕ} (r : Bars)
-    → (r.number ≡ number) × (r.line ≡ line) × (r.at ≡ place) → (number ≡ 0 → ⊥) → line ≤ place + 1 → 0 < line → place ≤ length t
-    → ((g : Grammar) → o g ≡ stopped number line (drop place t)) → BarsRead o t bars tapped r
-bars_refused {t = t} r q f behind numbered within e =
-    record {
-      stop = λ _ g. e g ∙ (λ j. stopped (sym q.0 j) (sym q.1 j) (drop (sym q.2 j) t));
-      place = rw (q.1, q.2) behind;
-      numbered = rw q.1 numbered;
-      within = rw q.2 within;
-      done = λ z. absurd (f (sym q.0 ∙ z));
-      good = λ z. absurd (f (sym q.0 ∙ z));
-    }
+-- ---- what follows a `45` line
+
+-- read where its bars are tapped or not
+abbrev Follows : (t : List ℕ) (at n bars d : ℕ) → Bool → Grammar → Outcome TimedSheet
+Follows t at n bars d b g = read_rest (cond b (in_taps g bars []) (in_onsets g false (even_lines bars d) (no_playing bars) 0)) n (drop at t)
+
+-- taps, where the duration is 0
+pub next_tapped : (t : List ℕ) (at n bars d : ℕ) → 1 ≤ bars → bars ≤ 64 → d ≡ 0 → (r : Result Bars Stop) → TapsRead t at n bars r
+    → NextRead t at n bars d r
+next_tapped t at n bars d one few none (Ok r) taps = (
+  subst (λ b. BarsDone (Follows t at n bars d b) t bars b r) (sym (eq-eqb d 0 none)) taps,
+  record { lines = record { one = one; sixty_four = few; time = taps.good }; even = λ f. absurd (f none) },
+)
+next_tapped t at n bars d one few none (Err e) taps = (
+  taps.0,
+  λ g. subst (λ b. Stopped t (Follows t at n bars d b g) e) (sym (eq-eqb d 0 none)) (taps.1 g),
+)
+
+-- else evenly spaced lines, for which no line is read
+pub next_even : (t : List ℕ) (at n bars d : ℕ) → at ≤ length t → n ≤ at + 1 → 0 < n → 1 ≤ bars → bars ≤ 64 → (d ≡ 0 → ⊥)
+    → (1000 ≤ d) × (d ≤ 60_000_000) → (cells : List Micros) → lines_in bars cells ≡ even_lines bars d
+    → NextRead t at n bars d (Ok (record { line = n; at = at; lines = cells }))
+next_even t at n bars d within line pos one few some range cells is =
+    let good = subst (GoodTiming bars) (sym is) (even_good bars d few range.0 range.1) in
+    let r : Bars = record { line = n; at = at; lines = cells } in (
+      subst (λ b. BarsDone (Follows t at n bars d b) t bars b r) (sym (ne_eqb d 0 some))
+          (record {
+            place = line;
+            numbered = pos;
+            within = within;
+            rest = λ g j. read_rest (in_onsets g false (sym is j) (no_playing bars) 0) n (drop at t);
+            good = good;
+          }),
+      record { lines = record { one = one; sixty_four = few; time = good }; even = λ _. is },
+    )

@@ -5,11 +5,12 @@ use Rattle.std.proofs.Math.Decide.{dec_le}
 use Rattle.sheet.specs.Sheet.{Timing, bar_units, unit_of, line_at, end_of, unit_in, bar_of}
 use Rattle.sheet.proofs.BarLines.{Rising, InBar, rises, lines_up, bar_of_lem, unit_at_lem, unit_before, share_most, end_not_reached}
 use Rattle.sheet.proofs.EvenLines.{even_at, even_unit}
+use Rattle.sheet.specs.declared.clock.Micros.{Micros}
 use Rattle.bar_lines.specs.declared.clock.Clock.{Clock}
 use Rattle.bar_lines.specs.Lines.{lines_in, ClockOf, Reached}
 
 -- a moment by a clock that is before the end of bars of one duration
-module _ (cells : List ℕ) (c : Clock) (h : ClockOf cells c) (t : ℕ) (before : t < c.even.0) where
+module _ (cells : List Micros) (c : Clock) (h : ClockOf cells c) (t : ℕ) (before : t < c.even.0) where
   abbrev d : ℕ
   d = c.duration.0
 
@@ -50,7 +51,7 @@ module _ (cells : List ℕ) (c : Clock) (h : ClockOf cells c) (t : ℕ) (before 
   even_is = sym (ap (λ x. unit_in x t) (h.even told.0) ∙ even_unit c.bars d (let some = told.0 in omega (arith, some)) t ends_even)
 
 -- the search can begin in the bar before that of an earlier moment's unit, which may have been rounded up to the next bar line
-pub reached_before : (cells : List ℕ) (c : Clock) → ClockOf cells c → (s t from : ℕ) → s ≤ t
+pub reached_before : (cells : List Micros) (c : Clock) → ClockOf cells c → (s t from : ℕ) → s ≤ t
     → t < end_of c.bars (lines_in c.bars cells) → from ≡ bar_of (unit_in (lines_in c.bars cells) s) - 1 → Reached cells c from t
 reached_before cells c h s t from up ends e = elim (dec_le (line_at timing 0) s) [
   | yes begins ↦ go (bar_of_lem timing bars count up_lines s begins (omega (arith, up, ends)))

@@ -25,8 +25,8 @@ fn first_past_end(bars: u8, lines: &BarLines) -> Micros
     ensures { result.0 ≡ first_past_end bars (lines_in bars lines.now) }
 {
     let last = bars as usize;
-    let end = lines[last];
-    let lasts = end - lines[last - 1];
+    let end = lines[last].0;
+    let lasts = end - lines[last - 1].0;
     Micros(end - lasts / BAR_HALF_UNITS)
 }
 
@@ -45,12 +45,11 @@ pub fn clock_of(bars: u8, duration: Micros, lines: &BarLines) -> Clock
     ensures { (result.bars ≡ bars) × (result.duration ≡ duration) × ClockOf lines.now result }
 {
     let end = first_past_end(bars, lines);
-    let first = Micros(lines[0]);
     let even = even_end(bars, duration);
     Clock {
         bars,
         duration,
-        first,
+        first: lines[0],
         end,
         even,
     }
@@ -63,7 +62,8 @@ fn bar_from(lines: &BarLines, from: usize, moment: Micros) -> usize
 {
     let t = moment.0;
     let mut bar = from;
-    while lines[bar + 1] <= t {
+    // No `for`: the search goes on from the bar before and ends at a line known to lie behind, so no bound is tested.
+    while lines[bar + 1].0 <= t {
         bar += 1;
     }
     bar
@@ -75,8 +75,8 @@ fn unit_within(lines: &BarLines, bar: usize, moment: Micros) -> Units
     ensures { (bars : ℕ) → GoodLines bars lines.now → BarFound bars lines.now moment.0 bar
         → result.0 ≡ unit_within (lines_in bars lines.now) bar moment.0 }
 {
-    let line = lines[bar];
-    let lasts = Micros(lines[bar + 1] - line);
+    let line = lines[bar].0;
+    let lasts = Micros(lines[bar + 1].0 - line);
     let since = Micros(moment.0 - line);
     let share = unit_of(since, lasts);
     Units((bar as u32) * BAR_UNITS + share.0)

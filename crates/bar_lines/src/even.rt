@@ -11,13 +11,11 @@ pub fn even_lines(bars: u8, duration: Micros) -> BarLines
     requires { (bars ≤ 64) × (duration.0 ≤ 60_000_000) }
     ensures { lines_in bars result ≡ even_lines bars duration.0 }
 {
-    let mut lines = [0u32; BAR_LINES_MOST];
+    let mut lines = [Micros(0); BAR_LINES_MOST];
     let d = duration.0;
-    let last = bars as usize;
-    let mut i: usize = 0;
-    while i <= last {
-        lines[i] = (i as u32) * d;
-        i += 1;
+    let count = (bars as usize) + 1;
+    for i in 0..count {
+        lines[i] = Micros((i as u32) * d);
     }
     lines
 }
@@ -28,12 +26,7 @@ pub fn timing_table(bars: u8, lines: &BarLines) -> TimingTable
     ensures { result ≡ timing_table (lines_in bars lines.now) }
 {
     let mut table = [Micros(0); BAR_LINES_MOST];
-    let last = bars as usize;
-    let mut i: usize = 0;
-    while i <= last {
-        let m = Micros(lines[i]);
-        table[i] = m;
-        i += 1;
-    }
+    let count = (bars as usize) + 1;
+    table[..count].copy_from_slice(&lines[..count]);
     TimingTable { lines: table }
 }

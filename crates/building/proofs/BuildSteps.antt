@@ -21,7 +21,7 @@ use Rattle.trees.proofs.RoomLaws.{room_pays, good_division}
 use Rattle.expansions.specs.declared.Placed.{Placed}
 use Rattle.expansions.specs.Items.{interval, Here, PlacedAt}
 use Rattle.plan.specs.declared.Split.{Split}
-use Rattle.plan.specs.Plan.{length_at, length_cell, Divides, SplitAt}
+use Rattle.plan.specs.Plan.{length_at, length_cell, Divides, NoDivision}
 use Rattle.plan.specs.PlanLaws.{lengths_most, length_positive}
 use Rattle.rows.specs.declared.slots.Bar.{Bar}
 use Rattle.rows.specs.Vectors.{LowCells}
@@ -80,7 +80,7 @@ module _ {s : Sheet} {plan us rows tree : List ℕ} {bar : Bar} {q l : ℕ} {lef
       (e ∙ lowest_same (64 * NONE) (λ m. at y m + 64 * at v m) (λ m. packed_cell s g c m + 64 * at v m) 4
       (λ m hm. ap (◌+ 64 * at v m) (ap (λ (z : List ℕ). at z m) h.row_is ∙ vec_at (packed_cell s g c) m hm)))
 
-  module _ (r : ℕ) (chosen : Chosen s g (at v) c r) (p : Split) (split : SplitAt s q l r p) where
+  module _ (r : ℕ) (chosen : Chosen s g (at v) c r) where
     -- the rule makes something of the item
     made : (X : Type 0) → ((m : Expansion) → (instance_of s).expand g c r ≡ some m → Step s g c r m → X) → X
     made X f = go ((instance_of s).expand g c r) refl
@@ -90,10 +90,10 @@ module _ {s : Sheet} {plan us rows tree : List ℕ} {bar : Bar} {q l : ℕ} {lef
         go (some m) e = f m e (step_of s g c r m e)
 
     -- a leaf
-    pub built_leaf : p.arity ≡ 0 → (late : ℕ) → late ≡ late_count s left.0 (length_at s l)
+    pub built_leaf : NoDivision s q l r → (late : ℕ) → late ≡ late_count s left.0 (length_at s l)
         → BuiltAs s rows tree (set tree to r) (g ∷ []) (at v) c to (record { to = to + 1; carry = late })
     unfolding at_leaf
-    built_leaf z late el = made (BuiltAs s rows tree (set tree to r) (g ∷ []) (at v) c to (record { to = to + 1; carry = late })) by
+    built_leaf undivided late el = made (BuiltAs s rows tree (set tree to r) (g ∷ []) (at v) c to (record { to = to + 1; carry = late })) by
       where
         none_left : BuiltAs s rows (set tree to r) (set tree to r) [] (at v) late (to + 1) (record { to = to + 1; carry = late })
         none_left =
@@ -114,13 +114,10 @@ module _ {s : Sheet} {plan us rows tree : List ℕ} {bar : Bar} {q l : ℕ} {lef
             let carry : m.carry ≡ late = ap (λ (x : Expansion). x.carry) k.is ∙ sym el in
             built_rule s rules rows tree (set tree to r) g (at v) c r to m _ h.entry.few chosen e build_room
             (rw (parts, carry) none_left)
-        by m e (inr d) = absurd (split.idle z d.weight d.kids d.rule (may_divide_lem s _ _ _ d.allowed).0)
+        by m e (inr d) = absurd (undivided d.weight d.kids d.rule (may_divide_lem s _ _ _ d.allowed).0)
 
     -- a division
-    module _ (some_part : p.arity ≡ 0 → ⊥) where
-      abbrev by : Divides s q l r p.arity p.part
-      by = split.divides some_part
-
+    module _ (p : Split) (by : Divides s q l r p.arity p.part) where
       pub inhabited : 0 < onsets_in s left.0 (length_at s l)
       inhabited = made (0 < onsets_in s left.0 (length_at s l)) one
         where

@@ -21,7 +21,7 @@ use Rattle.trees.proofs.Found.{cells_least}
 use Rattle.plan.specs.Plan.{rule_count}
 use Rattle.rows.specs.CellLaws.{total_by}
 use Rattle.rows.specs.PackedLaws.{packed_cell, packed_cell_is, packed_cell_rule}
-use Rattle.building.specs.Clauses.{at, suffix_costs, rest_total, Chosen}
+use Rattle.building.specs.Clauses.{suffix_costs, rest_total, Chosen}
 
 -- the least sum of a row and 64 times a vector, or 64 times the cap
 abbrev pub least_cell : (y v : List ℕ) → ℕ

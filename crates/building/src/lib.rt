@@ -16,7 +16,7 @@ use plan::{Plan, child, length, split_at};
 use rows::carry::idle;
 use rows::slots::{Bar, first_behind};
 use rows::table::{cells, parts};
-use rows::vector::{NO_CELL, NONE, dot, least, totals};
+use rows::vector::{NO_CELL, NONE, dot, totals};
 use sheet::Units;
 
 // How far a tree is built: the place of its next byte, and the carry state behind it.
@@ -31,17 +31,18 @@ fn least_cell(y: [u64; 4], v: [u64; 4]) -> u64
     requires { LowCells y × Low v }
     ensures { result ≡ least_cell y v }
 {
-    let a = least(NO_CELL, y[0] + 64 * v[0]);
-    let b = least(a, y[1] + 64 * v[1]);
-    let c = least(b, y[2] + 64 * v[2]);
-    least(c, y[3] + 64 * v[3])
+    NO_CELL
+        .min(y[0] + 64 * v[0])
+        .min(y[1] + 64 * v[1])
+        .min(y[2] + 64 * v[2])
+        .min(y[3] + 64 * v[3])
 }
 
 // What the parts of rule r from part i on total from carry state c with the suffix costs v behind them; NONE where c is idle by the totals
 // y of the item before them, since no least list passes it.
-fn passed<'a>(
-    plan: &'a Plan,
-    units: &'a PackedUnits,
+fn passed(
+    plan: &Plan,
+    units: &PackedUnits,
     rows: &mut [u64],
     bar: Bar,
     r: usize,
@@ -66,9 +67,9 @@ fn passed<'a>(
 }
 
 // The suffix costs before the parts of rule r from part i on, with v behind them and the totals y of the item before them.
-fn suffix_costs<'a>(
-    plan: &'a Plan,
-    units: &'a PackedUnits,
+fn suffix_costs(
+    plan: &Plan,
+    units: &PackedUnits,
     rows: &mut [u64],
     bar: Bar,
     r: usize,
@@ -96,9 +97,9 @@ fn suffix_costs<'a>(
 
 // Writes the first least list of an item from byte `to` on: y is its row from carry state c, and v the suffix costs behind it.
 #[cycle(build_build_parts)]
-pub fn build<'a>(
-    plan: &'a Plan,
-    units: &'a PackedUnits,
+pub fn build(
+    plan: &Plan,
+    units: &PackedUnits,
     rows: &mut [u64],
     tree: &mut [u8],
     bar: Bar,
@@ -118,12 +119,9 @@ pub fn build<'a>(
 {
     let r = (least_cell(y, v) % 64) as usize;
     tree[to] = r as u8;
-    let split = split_at(plan, q, l, r);
-    let k = split.arity;
-    let h = split.part;
-    if k == 0 {
+    let Some(split) = split_at(plan, q, l, r) else {
         let over = Interval {
-            left: Units(left.0),
+            left,
             len: length(plan, l),
         };
         let placed = place(units, over, from);
@@ -131,7 +129,7 @@ pub fn build<'a>(
             to: to + 1,
             carry: placed.late,
         };
-    }
+    };
     build_parts(
         plan,
         units,
@@ -139,8 +137,8 @@ pub fn build<'a>(
         tree,
         bar,
         r,
-        k,
-        h,
+        split.arity,
+        split.part,
         left,
         from,
         c,
@@ -151,9 +149,9 @@ pub fn build<'a>(
 
 // Writes the first least lists of the parts of rule r, one behind the other, with the suffix costs v behind them.
 #[cycle(build_build_parts)]
-fn build_parts<'a>(
-    plan: &'a Plan,
-    units: &'a PackedUnits,
+fn build_parts(
+    plan: &Plan,
+    units: &PackedUnits,
     rows: &mut [u64],
     tree: &mut [u8],
     bar: Bar,
@@ -176,15 +174,14 @@ fn build_parts<'a>(
     let mut at = from;
     let mut next = to;
     let mut carry = c;
-    let mut j: usize = 0;
-    while j < k {
+    for j in 0..k {
         let q = child(plan, r, j);
-        j += 1;
         let end = lo + len;
         let then = first_behind(units, at, Units(end));
         let y = cells(plan, units, rows, bar, q, l, Units(lo), at, carry);
         let x = totals(y);
-        let w = suffix_costs(plan, units, rows, bar, r, j, k, l, Units(end), then, x, v);
+        let i = j + 1;
+        let w = suffix_costs(plan, units, rows, bar, r, i, k, l, Units(end), then, x, v);
         let b = build(
             plan,
             units,

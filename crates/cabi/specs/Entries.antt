@@ -7,7 +7,9 @@ use Rattle.sheet.specs.Outcome.{Outcome, refused, accepted, number_in, line_in, 
 use Rattle.sizes.specs.Sizes.{work_cells, tree_bytes}
 use Rattle.tempo.specs.declared.remark.Remark.{Remark}
 use Rattle.tempo.specs.Tempo.{kind_of}
+use Rattle.sheet.specs.Refusal.{outcome_of}
 use Rattle.pricing.specs.declared.Priced.{Priced}
+use Rattle.pricing.specs.Pricing.{Answer, figures_of}
 use Rattle.finding.specs.Finding.{Finds}
 
 -- the number and the line of a refusal in one number; 0 for an accepted text
@@ -37,13 +39,14 @@ bar_line_of (refused k n) i = 0
 bar_line_of (accepted x) i = line_at x.timing i
 
 -- the numbers of a tempo remark: the case by its number (0 steady, 1 faster, 2 slower), and the percentage by its bits
-abbrev pub tempo_cells : Remark → List ℕ
-tempo_cells r =
-    r.number ∷ r.line ∷ kind_of r.tempo ∷ r.bar.duration ∷ r.bar.next ∷ to_bits binary64 r.bar.percentage ∷ []
+abbrev pub tempo_cells : Outcome Remark → List ℕ
+tempo_cells (refused k n) = k ∷ n ∷ 0 ∷ 0 ∷ 0 ∷ 0 ∷ []
+tempo_cells (accepted r) = 0 ∷ 0 ∷ kind_of r.tempo ∷ r.bar.duration ∷ r.bar.next ∷ to_bits binary64 r.bar.percentage ∷ []
 
 -- the numbers of an answer of pricing or of finding, in its order
-abbrev pub answer_cells : Priced → List ℕ
-answer_cells r = r.number ∷ r.line ∷ r.nodes ∷ r.weight ∷ r.distance ∷ r.total ∷ []
+abbrev pub answer_cells : Outcome Priced → List ℕ
+answer_cells o =
+    number_in o ∷ line_in o ∷ (figures_of o).nodes ∷ (figures_of o).weight ∷ (figures_of o).distance ∷ (figures_of o).total ∷ []
 
 -- the numbers of a score, in the order of the answer
 abbrev pub write_cells : Outcome (List ℕ) → List ℕ
@@ -51,6 +54,6 @@ write_cells o = number_in o ∷ line_in o ∷ length (value_in [] o) ∷ []
 
 -- what finding gives, as numbers: an answer that meets its promise
 pub record FindCells (text tree treeAfter work workAfter cells : List ℕ) : Type 0 where
-  pub answer : Priced
+  pub answer : Answer
   pub finds : Finds text tree treeAfter work workAfter answer
-  pub numbers : cells ≡ answer_cells answer
+  pub numbers : cells ≡ answer_cells (outcome_of answer)

@@ -77,13 +77,11 @@ line_past_last e = omega arith
 
 -- `rhythm_price` with D in the place of R: of S's tree R is 8 and D 1,008
 price_D_for_R : 0 ∷ 0 ∷ 3 ∷ 1008 ∷ 8 ∷ 1088 ∷ [] ≡ answer_cells (priced_of (price_text S tree)) → ⊥
-unfolding priced_of
 price_D_for_R e =
     let z : ◌≡◌ {A = ℕ} 1008 8 = ap (λ xs. cell xs 3) (e ∙ ap (λ o. answer_cells (priced_of o)) S_prices_010303) in omega arith
 
 -- `rhythm_price` that counts the nodes of a list that is no tree
 price_nodes_of_refused : 12 ∷ 0 ∷ 1 ∷ 0 ∷ 0 ∷ 0 ∷ [] ≡ answer_cells (priced_of (price_text S (0 ∷ []))) → ⊥
-unfolding priced_of
 price_nodes_of_refused e =
     let z : ◌≡◌ {A = ℕ} 1 0 = ap (λ xs. cell xs 2) (e ∙ ap (λ o. answer_cells (priced_of o)) S_refuses_00) in omega arith
 

@@ -1,15 +1,16 @@
 // The entries for C and Rust. A text is a pointer to its bytes and their number. Each entry takes every text and checks it itself.
 #![tactic(auto)]
 
-ghost use Rattle.std.specs.Prelude.{◌≡◌, length};
+ghost use Rattle.std.specs.Prelude.{◌≡◌, length, [], ◌∷◌};
 ghost use Rattle.sheet.specs.Reading.{read_sheet};
+ghost use Rattle.sheet.specs.Refusal.{number_of, outcome_of};
 ghost use Rattle.pricing.specs.Pricing.{price_text, priced_of};
 ghost use Rattle.score.specs.Writing.{write_text, score_after};
 ghost use Rattle.tempo.specs.Tempo.{record_text, remark_of};
 ghost use Rattle.cabi.specs.Entries.{check_of, work_of, tree_of, unit_at, bar_line_of, tempo_cells, answer_cells, write_cells, FindCells};
 
 use pricing::Priced;
-use sheet::{BAR_LINES_MOST, ONSETS_MOST};
+use sheet::{BAR_LINES_MOST, ONSETS_MOST, Refused};
 use tempo::{remark_at, tempo_kind};
 
 // The number of a text's refusal times 65,536, plus its line; 0: the text is accepted.
@@ -17,8 +18,10 @@ use tempo::{remark_at, tempo_kind};
 pub extern "C" fn rhythm_check(text: &[u8]) -> u32
     ensures { result ≡ check_of (read_sheet text.now) }
 {
-    let r = reading::read(text);
-    (r.number as u32) * 65536 + (r.line as u32)
+    match reading::read(text) {
+        Ok(_) => 0,
+        Err(e) => (e.refusal.number() as u32) * 65536 + (e.line as u32),
+    }
 }
 
 // The required length of finding's work slice, in cells; 0: the text is refused.
@@ -26,14 +29,10 @@ pub extern "C" fn rhythm_check(text: &[u8]) -> u32
 pub extern "C" fn rhythm_work_cells(text: &[u8]) -> u64
     ensures { result ≡ work_of (read_sheet text.now) }
 {
-    let r = reading::read(text);
-    let number = r.number;
-    if number != 0 {
-        return 0;
+    match reading::read(text) {
+        Ok(r) => sizes::work_cells(r.grammar, r.playing) as u64,
+        Err(_) => 0,
     }
-    let grammar = r.grammar;
-    let playing = r.playing;
-    sizes::work_cells(grammar, playing) as u64
 }
 
 // The required length of finding's tree slice, in bytes; 0: the text is refused.
@@ -41,13 +40,10 @@ pub extern "C" fn rhythm_work_cells(text: &[u8]) -> u64
 pub extern "C" fn rhythm_tree_bytes(text: &[u8]) -> u64
     ensures { result ≡ tree_of (read_sheet text.now) }
 {
-    let r = reading::read(text);
-    let number = r.number;
-    if number != 0 {
-        return 0;
+    match reading::read(text) {
+        Ok(r) => sizes::tree_bytes(r.playing) as u64,
+        Err(_) => 0,
     }
-    let playing = r.playing;
-    sizes::tree_bytes(playing) as u64
 }
 
 // The unit of onset i, from 0; 0 past the last, and where the text is refused.
@@ -55,13 +51,13 @@ pub extern "C" fn rhythm_tree_bytes(text: &[u8]) -> u64
 pub extern "C" fn rhythm_onset_unit(text: &[u8], i: usize) -> u32
     ensures { result ≡ unit_at (read_sheet text.now) i }
 {
-    let r = reading::read(text);
+    let Ok(r) = reading::read(text) else {
+        return 0;
+    };
     if ONSETS_MOST <= i {
         return 0;
     }
-    let playing = r.playing;
-    let unit = playing.units[i];
-    unit.0
+    r.playing.units[i].0
 }
 
 // The moment of bar line i, from 0, in microseconds; 0 past the last, and where the text is refused.
@@ -69,13 +65,20 @@ pub extern "C" fn rhythm_onset_unit(text: &[u8], i: usize) -> u32
 pub extern "C" fn rhythm_bar_line(text: &[u8], i: usize) -> u32
     ensures { result ≡ bar_line_of (read_sheet text.now) i }
 {
-    let r = reading::read(text);
+    let Ok(r) = reading::read(text) else {
+        return 0;
+    };
     if BAR_LINES_MOST <= i {
         return 0;
     }
-    let timing = r.timing;
-    let moment = timing.lines[i];
-    moment.0
+    r.timing.lines[i].0
+}
+
+// A refusal as the numbers of an answer.
+fn refused_cells(e: Refused) -> [u64; 6]
+    ensures { result ≡ number_of e.refusal ∷ e.line ∷ 0 ∷ 0 ∷ 0 ∷ 0 ∷ [] }
+{
+    [e.refusal.number() as u64, e.line as u64, 0, 0, 0, 0]
 }
 
 // How the tempo moves from bar i, from 0, to the next: refusal number, line, kind (0 steady, 1 faster, 2 slower), the bar's duration and the
@@ -84,31 +87,28 @@ pub extern "C" fn rhythm_bar_line(text: &[u8], i: usize) -> u32
 pub extern "C" fn rhythm_tempo(text: &[u8], i: usize, answer: &mut [u64; 6])
     ensures { answer.new ≡ tempo_cells (remark_of (record_text text.now i)) }
 {
-    let r = remark_at(text, i);
-    let bar = r.bar;
-    let cells = [
-        r.number as u64,
-        r.line as u64,
-        tempo_kind(r.tempo) as u64,
-        bar.duration as u64,
-        bar.next as u64,
-        f64::to_bits(bar.percentage),
-    ];
+    let cells = match remark_at(text, i) {
+        Ok(r) => [
+            0,
+            0,
+            tempo_kind(r.tempo) as u64,
+            r.bar.duration as u64,
+            r.bar.next as u64,
+            f64::to_bits(r.bar.percentage),
+        ],
+        Err(e) => refused_cells(e),
+    };
     *answer = cells;
 }
 
 // An answer as numbers: refusal number, line, node count, R, D and total.
-fn numbers(r: Priced) -> [u64; 6]
-    ensures { result ≡ answer_cells r }
+fn numbers(r: Result<Priced, Refused>) -> [u64; 6]
+    ensures { result ≡ answer_cells (outcome_of r) }
 {
-    [
-        r.number as u64,
-        r.line as u64,
-        r.nodes as u64,
-        r.weight,
-        r.distance,
-        r.total,
-    ]
+    match r {
+        Ok(p) => [0, 0, p.nodes as u64, p.weight, p.distance, p.total],
+        Err(e) => refused_cells(e),
+    }
 }
 
 // Prices a list against the sheet that a text means.
@@ -128,8 +128,10 @@ pub extern "C" fn rhythm_write(text: &[u8], list: &[u8], score: &mut [u8], answe
         × (score.new
         ≡ score_after (write_text text.now list.now (length score.old)) score.old) }
 {
-    let w = score::write(text, list, score);
-    let cells = [w.number as u64, w.line as u64, w.bytes as u64];
+    let cells = match score::write(text, list, score) {
+        Ok(bytes) => [0, 0, bytes as u64],
+        Err(e) => [e.refusal.number() as u64, e.line as u64, 0],
+    };
     *answer = cells;
 }
 

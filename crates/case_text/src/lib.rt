@@ -8,29 +8,6 @@ ghost use Rattle.std.specs.Io.KnownBytes.{Consumes, IsAtEnd};
 use std::io;
 use std::io::Read;
 
-pub fn wide(b: u8) -> usize
-    ensures { result < 256 }
-{
-    b as usize
-}
-
-pub fn least(a: usize, b: usize) -> usize
-    ensures { result ≡ min a b }
-{
-    if a < b { a } else { b }
-}
-
-// Stores b from place `at` of a slice on.
-pub fn fill_from(s: &mut [u8], at: usize, b: u8)
-    ensures { length s.new ≡ length s.old }
-{
-    let mut i = at;
-    while i < s.len() {
-        s[i] = b;
-        i += 1;
-    }
-}
-
 // Reads until the slice is full or the input ends; gives how many bytes were read, which stand at the front of the slice.
 pub fn read_full<R: Read>(input: &mut R, s: &mut [u8]) -> io::Result<usize>
     ensures within { IfOk result (λ n. n ≤ length s.new) }
@@ -39,6 +16,7 @@ pub fn read_full<R: Read>(input: &mut R, s: &mut [u8]) -> io::Result<usize>
     ensures kept { length s.new ≡ length s.old }
 {
     let mut done: usize = 0;
+    // No `for`: a round takes as many bytes as were there.
     while done < s.len() {
         let n = input.read(&mut s[done..])?;
         if n == 0 {
@@ -57,8 +35,7 @@ pub fn print(rt: &impl Print, label: &[u8], a: u64, b: u64, c: u64) -> io::Resul
 
 // Writes the first n bytes of a slice, or all where it has fewer.
 pub fn print_front(rt: &impl Print, s: &[u8], n: usize) -> io::Result<()> {
-    let end = least(n, s.len());
-    rt.write_all(&s[..end])
+    rt.write_all(&s[..n.min(s.len())])
 }
 
 // The first place from `at` on that holds b, or the end.
@@ -66,14 +43,10 @@ pub fn place_of(s: &[u8], at: usize, b: u8) -> usize
     requires { at ≤ length s.now }
     ensures { (at ≤ result) × (result ≤ length s.now) }
 {
-    let mut i = at;
-    while i < s.len() {
-        if s[i] == b {
-            return i;
-        }
-        i += 1;
+    match s[at..].iter().position(|&x| x == b) {
+        Some(i) => at + i,
+        None => s.len(),
     }
-    i
 }
 
 // The place behind place i, or the end.
@@ -81,8 +54,5 @@ pub fn behind(s: &[u8], i: usize) -> usize
     requires { i ≤ length s.now }
     ensures { result ≡ min (i + 1) (length s.now) }
 {
-    if i < s.len() {
-        return i + 1;
-    }
-    i
+    (i + 1).min(s.len())
 }

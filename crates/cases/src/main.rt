@@ -4,11 +4,29 @@
 // print.
 #![tactic(auto)]
 
-ghost use Rattle.std.specs.Prelude.{◌≡◌, ◌≤◌, length, IfOk};
+ghost use Rattle.std.specs.Prelude.{◌≤◌, length, IfOk};
 
-use case_text::{behind, fill_from, least, place_of, print, print_front, read_full, wide};
-use reporting::{REFUSAL_LINE_BYTES, RefusalLine, SCORE_BYTES, Shown, TREE_BYTES_MOST, WORK_CELLS};
+use case_text::{behind, place_of, print, print_front, read_full};
+use pricing::Priced;
+use reporting::{REFUSAL_LINE_BYTES, SCORE_BYTES, Shown, TREE_BYTES_MOST, WORK_CELLS};
+use sheet::Refused;
 use std::io;
+
+// What is printed of a text that is refused.
+const NO_PRICE: Priced = Priced {
+    nodes: 0,
+    weight: 0,
+    distance: 0,
+    total: 0,
+};
+
+// What `find` and `report` are lent. The page is the score slice of `report`, and takes the line of a tree that `find` gave.
+#[derive(Drop)]
+struct Slices {
+    tree: [u8; TREE_BYTES_MOST],
+    work: [u64; WORK_CELLS],
+    page: [u8; SCORE_BYTES],
+}
 
 // How `find` is run: what fills the slices, and how many bytes and cells are lent.
 #[derive(Clone, Copy)]
@@ -19,74 +37,45 @@ struct Setting {
     cells: usize,
 }
 
-fn setting_of(line: [u8; 7]) -> Setting {
-    Setting {
+// What a case calls.
+#[derive(Clone, Copy)]
+enum Call {
+    Report,
+    Find(Setting),
+}
+
+// The number that two bytes are.
+fn number(high: u8, low: u8) -> usize {
+    usize::from(u16::from_be_bytes([high, low]))
+}
+
+// What a case's second line says; any first byte but 52 runs `find`.
+fn call_of(line: [u8; 7]) -> Call {
+    if line[0] == 0x52 {
+        return Call::Report;
+    }
+    Call::Find(Setting {
         byte: line[1],
-        cell: 0x0101010101010101 * (wide(line[2]) as u64),
-        bytes: wide(line[3]) * 256 + wide(line[4]),
-        cells: wide(line[5]) * 256 + wide(line[6]),
-    }
+        cell: u64::from_be_bytes([line[2]; 8]),
+        bytes: number(line[3], line[4]),
+        cells: number(line[5], line[6]),
+    })
 }
 
-fn fill_cells(cells: &mut [u64], x: u64)
-    ensures { length cells.new ≡ length cells.old }
-{
-    let mut i: usize = 0;
-    while i < cells.len() {
-        cells[i] = x;
-        i += 1;
-    }
+// How many elements of a slice are x.
+fn count_of<T: Copy + PartialEq>(s: &[T], x: T) -> usize {
+    s.iter().filter(|&&held| held == x).count()
 }
 
-// How many bytes of a slice hold b.
-fn bytes_with(s: &[u8], b: u8) -> u64 {
-    let mut count: u64 = 0;
-    let mut i: usize = 0;
-    while i < s.len() {
-        let held = s[i];
-        i += 1;
-        if held == b {
-            count += 1;
-        }
-    }
-    count
-}
-
-// How many cells of a slice hold x.
-fn cells_with(s: &[u64], x: u64) -> u64 {
-    let mut count: u64 = 0;
-    let mut i: usize = 0;
-    while i < s.len() {
-        let held = s[i];
-        i += 1;
-        if held == x {
-            count += 1;
-        }
-    }
-    count
-}
-
-// How many of the first n cells of a slice are 0 before another value stands.
-fn zeros_before(s: &[u64], n: usize) -> usize
-    requires { n ≤ length s.now }
-    ensures { result ≤ n }
-{
-    let mut i: usize = 0;
-    while i < n {
-        if s[i] != 0 {
-            return i;
-        }
-        i += 1;
-    }
-    i
-}
-
-fn print_answer(rt: &impl Print, p: pricing::Priced) -> io::Result<()> {
+// Prints the number and the line of a refusal, 0 and 0 where there is none, and a price.
+fn print_answer(rt: &impl Print, refused: Option<Refused>, p: Priced) -> io::Result<()> {
+    let number = refused.map_or(0, |e| e.refusal.number());
+    let line = refused.map_or(0, |e| e.line);
     print(
         rt,
         b"\n  number, line, nodes",
-        p.number as u64,
-        p.line as u64,
+        u64::from(number),
+        line as u64,
         p.nodes as u64,
     )?;
     print(rt, b"; R, D, total", p.weight, p.distance, p.total)
@@ -103,13 +92,13 @@ fn print_tree(
 ) -> io::Result<()>
     requires { room ≤ length tree.now }
 {
-    let end = least(nodes, room);
+    let end = nodes.min(room);
     print(
         rt,
         b"\n  tree: bytes, kept behind them, behind the slice",
         end as u64,
-        bytes_with(&tree[end..room], fill),
-        bytes_with(&tree[room..], fill),
+        count_of(&tree[end..room], fill) as u64,
+        count_of(&tree[room..], fill) as u64,
     )?;
     rt.write_all(b"\n  ")?;
     let stop = hextext::write_line(&tree[..end], page, 0);
@@ -120,119 +109,88 @@ fn print_tree(
 fn print_work(rt: &impl Print, work: &[u64], room: usize, fill: u64) -> io::Result<()>
     requires { room ≤ length work.now }
 {
-    let zeros = zeros_before(work, room);
+    let zeros = work[..room].iter().position(|&x| x != 0).unwrap_or(room);
     print(
         rt,
         b"  work: zeros, kept behind them, behind the slice",
         zeros as u64,
-        cells_with(&work[zeros..room], fill),
-        cells_with(&work[room..], fill),
+        count_of(&work[zeros..room], fill) as u64,
+        count_of(&work[room..], fill) as u64,
     )?;
     rt.write_all(b"\n")
 }
 
 // Finds a tree with parts of two slices that are filled beforehand, and prints the answer and the slices.
-fn print_found(
-    rt: &impl Print,
-    text: &[u8],
-    tree: &mut [u8],
-    work: &mut [u64],
-    page: &mut [u8],
-    how: Setting,
-) -> io::Result<()> {
-    let bytes = least(how.bytes, tree.len());
-    let cells = least(how.cells, work.len());
-    fill_from(tree, 0, how.byte);
-    fill_cells(work, how.cell);
-    let p = finding::find(text, &mut tree[..bytes], &mut work[..cells]);
-    print_answer(rt, p)?;
-    print_tree(rt, tree, p.nodes, bytes, how.byte, page)?;
+fn print_found(rt: &impl Print, text: &[u8], slices: &mut Slices, how: Setting) -> io::Result<()> {
+    let bytes = how.bytes.min(TREE_BYTES_MOST);
+    let cells = how.cells.min(WORK_CELLS);
+    let tree = &mut slices.tree[..];
+    let work = &mut slices.work[..];
+    tree.fill(how.byte);
+    work.fill(how.cell);
+    let answer = finding::find(text, &mut tree[..bytes], &mut work[..cells]);
+    let p = answer.unwrap_or(NO_PRICE);
+    print_answer(rt, answer.err(), p)?;
+    print_tree(rt, tree, p.nodes, bytes, how.byte, &mut slices.page)?;
     print_work(rt, work, cells, how.cell)
 }
 
-// The line is taken as an array, whose length is known even after a call that stored it.
-fn print_line(rt: &impl Print, line: &RefusalLine) -> io::Result<()> {
-    rt.write_all(line)
-}
-
 // Prints what the program would print: the entry behind it is called with slices of zeros.
-fn print_report(
-    rt: &impl Print,
-    text: &[u8],
-    tree: &mut [u8],
-    work: &mut [u64],
-    score: &mut [u8],
-) -> io::Result<()> {
-    fill_from(tree, 0, 0);
-    fill_cells(work, 0);
-    fill_from(score, 0, 0);
+fn print_report(rt: &impl Print, text: &[u8], slices: &mut Slices) -> io::Result<()> {
+    slices.tree.fill(0);
+    slices.work.fill(0);
+    slices.page.fill(0);
     let mut line = [0u8; REFUSAL_LINE_BYTES];
-    let shown = reporting::report(text, work, tree, score, &mut line);
+    let shown = reporting::report(
+        text,
+        &mut slices.work,
+        &mut slices.tree,
+        &mut slices.page,
+        &mut line,
+    );
     rt.write_all(b"\n")?;
     match shown {
-        Shown::Line => print_line(rt, &line),
-        Shown::Score { bytes } => print_front(rt, score, bytes),
-    }
-}
-
-// Runs a case as its second line says.
-fn print_case(
-    rt: &impl Print,
-    text: &[u8],
-    line: [u8; 7],
-    tree: &mut [u8],
-    work: &mut [u64],
-    page: &mut [u8],
-) -> io::Result<()> {
-    if line[0] == 0x52 {
-        print_report(rt, text, tree, work, page)
-    } else {
-        print_found(rt, text, tree, work, page, setting_of(line))
+        Shown::Line => rt.write_all(&line),
+        Shown::Score { bytes } => print_front(rt, &slices.page, bytes),
     }
 }
 
 // Runs the case whose lines start at place `from` of the input; gives the place behind it.
-fn run_case(
-    rt: &impl Print,
-    s: &[u8],
-    from: usize,
-    tree: &mut [u8],
-    work: &mut [u64],
-    page: &mut [u8],
-) -> io::Result<usize>
+fn run_case(rt: &impl Print, s: &[u8], from: usize, slices: &mut Slices) -> io::Result<usize>
     requires { from ≤ length s.now }
     ensures { IfOk result (λ stop. (from ≤ stop) × (stop ≤ length s.now)) }
 {
     let mut line = [0u8; 7];
     let next = hextext::next_line(s, from, &mut line).next;
-    let start = least(next, s.len());
+    let start = next.min(s.len());
     let stop = place_of(s, start, b'#');
-    print_case(rt, &s[start..stop], line, tree, work, page)?;
+    let text = &s[start..stop];
+    match call_of(line) {
+        Call::Report => print_report(rt, text, slices)?,
+        Call::Find(how) => print_found(rt, text, slices, how)?,
+    }
     Ok(stop)
 }
 
 // Each case of the input.
-fn run(
-    rt: &impl Print,
-    s: &[u8],
-    tree: &mut [u8],
-    work: &mut [u64],
-    page: &mut [u8],
-) -> io::Result<()> {
+fn run(rt: &impl Print, s: &[u8], slices: &mut Slices) -> io::Result<()> {
     let mut at = place_of(s, 0, b'#');
+    // No `for`: a round takes one case, of any length.
     while at < s.len() {
         let end = place_of(s, at, b'\n');
         rt.write_all(&s[at..end])?;
-        at = run_case(rt, s, behind(s, end), tree, work, page)?;
+        at = run_case(rt, s, behind(s, end), slices)?;
     }
     Ok(())
 }
 
 fn main(rt: HostRuntime) -> io::Result<()> {
     let mut input = [0u8; 131072];
-    let mut tree = [0u8; TREE_BYTES_MOST];
-    let mut work = [0u64; WORK_CELLS];
-    let mut page = [0u8; SCORE_BYTES];
+    let mut slices = Slices {
+        tree: [0; TREE_BYTES_MOST],
+        work: [0; WORK_CELLS],
+        page: [0; SCORE_BYTES],
+    };
     let n = read_full(&mut rt.stdin(), &mut input)?;
-    run(&rt, &input[..n], &mut tree, &mut work, &mut page)
+    run(&rt, &input[..n], &mut slices)
 }

@@ -18,7 +18,7 @@
 --                                      (sheet/specs/Nearest)
 --   onsetLines, playingLine, tapsOf    the `4E` lines of some lines, in order; the `45` line; the moments of the `42` lines; and
 --   timingBy l taps                    the bar lines that these tell (sheet/specs/OnsetLines)
---   isTapped l                         the duration of the `45` line l is 0 (sheet/specs/Reading)
+--   is_tapped l                        the duration of the `45` line l is 0 (sheet/specs/Reading)
 --   timeAt text i, unit_at r i          the time of `4E` line i, from 0, and the unit that a reading has of onset i
 --   barLineAt r i, NearestInBar r t u  bar line i of a reading; and that t is in a bar of it, and u the nearest to its share of that bar's
 --                                      duration (sheet/specs/UnitsRead)
@@ -27,7 +27,7 @@
 --   refusal, inTaps, inOnsets          the refusal of the next line, 0 for none, where g, B and some taps have been read, or g, whether the
 --                                      bars are tapped, the timing and the playing p, the last onset at `last` (sheet/specs/Reading)
 --   Twins t u                          the lines of u are those of t with the duration 0 and a tap on each bar line (sheet/specs/Twin)
-use Rattle.std.specs.Prelude.{ℕ, ◌+◌, ◌-◌, ◌*◌, ◌/◌, ◌≤◌, ◌<◌, ◌≡◌, refl, Bool, true, false, List, [], ◌⊎◌, ◌↔◌, length, get_or, drop}
+use Rattle.std.specs.Prelude.{ℕ, ◌+◌, ◌-◌, ◌*◌, ◌/◌, ◌≤◌, ◌<◌, ◌≡◌, refl, Bool, true, false, List, [], ◌⊎◌, ◌↔◌, length, get_or, drop, Result, Ok}
 use Rattle.std.proofs.Common.{sym, ap, ◌∙◌}
 use Rattle.hextext.specs.declared.line.Line.{Line}
 use Rattle.hextext.specs.Text.{bad_line, line_bytes, lines}
@@ -35,7 +35,10 @@ use Rattle.hextext.specs.Packed.{line_read}
 use Rattle.sheet.specs.declared.table.Reading.{Reading}
 use Rattle.slices.specs.Every.{Every}
 use Rattle.sheet.specs.Sheet.{Onset, Grammar, Playing, Sheet, Timing, TimedSheet, bar_units, unit_of, line_at, end_of, unit_in, even_lines, bar_of}
-use Rattle.sheet.specs.Outcome.{refused, accepted}
+use Rattle.sheet.specs.declared.refusal.Refused.{Refused}
+use Rattle.sheet.specs.Outcome.{refused, accepted, number_in, line_in}
+use Rattle.sheet.specs.Refusal.{answer_number, answer_line, same_answer}
+use Rattle.pricing.specs.Pricing.{figures_in}
 use Rattle.sheet.specs.Reading.{byte, four, is_tapped, onset_form, in_taps, in_onsets, refusal, read_lines, read_sheet}
 use Rattle.sheet.proofs.EvenLines.{even_unit}
 use Rattle.sheet.specs.TapRefusals as taps
@@ -67,18 +70,18 @@ use Rattle.finding.specs.SlidingLaws as sliding
 -- are the same. With a = 0 one may be smaller (finding/specs/SlidingCases, `dominated_at_zero`).
 pub find_undominated : (s : Sheet) (x : Call) → TreeOf s x → 1 ≤ s.grammar.multiplier
     → (bs : List ℕ) (R D : ℕ) → Priced s bs R D
-    → R ≤ x.answer.weight → D ≤ x.answer.distance → (R ≡ x.answer.weight) × (D ≡ x.answer.distance)
+    → R ≤ (figures_in x.answer).weight → D ≤ (figures_in x.answer).distance → (R ≡ (figures_in x.answer).weight) × (D ≡ (figures_in x.answer).distance)
 find_undominated = sliding.undominated
 
 -- "For two sheets alike except that a grows, when both have a tree, R doesn't rise and D doesn't fall": of sheets
 pub find_slides : (s : Sheet) (a b : ℕ) (x y : Call) → a ≤ b → TreeOf (with_multiplier a s) x → TreeOf (with_multiplier b s) y
-    → (y.answer.weight ≤ x.answer.weight) × (x.answer.distance ≤ y.answer.distance)
+    → ((figures_in y.answer).weight ≤ (figures_in x.answer).weight) × ((figures_in x.answer).distance ≤ (figures_in y.answer).distance)
 find_slides = sliding.slides
 
 -- and of texts that are the same but for a's field, which mean sheets that are the same but for a; every accepted text has one for each a
 pub find_slides_by_text : (s s' : Sheet) (x y : Call) → AlikeTexts x.text y.text
     → s.grammar.multiplier ≤ s'.grammar.multiplier → TreeOf s x → TreeOf s' y
-    → (y.answer.weight ≤ x.answer.weight) × (x.answer.distance ≤ y.answer.distance)
+    → ((figures_in y.answer).weight ≤ (figures_in x.answer).weight) × ((figures_in x.answer).distance ≤ (figures_in y.answer).distance)
 find_slides_by_text = sliding.slides_by_text
 
 pub read_alike : (t u : List ℕ) (s s' : Sheet) → Accepts t s → Accepts u s' → AlikeTexts t u
@@ -94,19 +97,19 @@ pub trees_alike : (s : Sheet) (a b : ℕ) (bs : List ℕ) → ValidTree (with_mu
 trees_alike = valid_slid
 
 pub find_both_or_neither : (s : Sheet) (a b : ℕ) (x y : Call) → Accepts x.text (with_multiplier a s)
-    → Accepts y.text (with_multiplier b s) → RoomFor s x → RoomFor s y → (x.answer.number ≡ 0) ↔ (y.answer.number ≡ 0)
+    → Accepts y.text (with_multiplier b s) → RoomFor s x → RoomFor s y → (answer_number x.answer ≡ 0) ↔ (answer_number y.answer ≡ 0)
 find_both_or_neither = sliding.both_or_neither
 
 pub find_both_or_neither_by_text : (s s' : Sheet) (x y : Call) → AlikeTexts x.text y.text → Accepts x.text s
-    → Accepts y.text s' → RoomFor s x → RoomFor s y → (x.answer.number ≡ 0) ↔ (y.answer.number ≡ 0)
+    → Accepts y.text s' → RoomFor s x → RoomFor s y → (answer_number x.answer ≡ 0) ↔ (answer_number y.answer ≡ 0)
 find_both_or_neither_by_text = sliding.both_or_neither_by_text
 
 -- Beyond the request: where two multipliers give the same R and D, each between them gives these too, and the same tree.
 pub find_skipped : (s : Sheet) (a b c : ℕ) (x y z : Call) → a ≤ b → b ≤ c
     → TreeOf (with_multiplier a s) x → TreeOf (with_multiplier b s) y → TreeOf (with_multiplier c s) z
-    → x.answer.weight ≡ z.answer.weight → x.answer.distance ≡ z.answer.distance
-    → (y.answer.weight ≡ x.answer.weight) × (y.answer.distance ≡ x.answer.distance)
-    × (y.answer.nodes ≡ x.answer.nodes) × (found_bytes y ≡ found_bytes x)
+    → (figures_in x.answer).weight ≡ (figures_in z.answer).weight → (figures_in x.answer).distance ≡ (figures_in z.answer).distance
+    → ((figures_in y.answer).weight ≡ (figures_in x.answer).weight) × ((figures_in y.answer).distance ≡ (figures_in x.answer).distance)
+    × ((figures_in y.answer).nodes ≡ (figures_in x.answer).nodes) × (found_bytes y ≡ found_bytes x)
 find_skipped = sliding.skipped
 
 -- ==== Document 02, (ix), rules kept by their head. "Each group is shown to hold every rule of its head, once each and no other, and the
@@ -118,16 +121,15 @@ rules_grouped s plan p q h = head_group p h
 
 -- ==== Document 02, (iv), one pass over a line. "Every result is the one it was": what meets `read`'s contract, which has not changed,
 -- gives one answer; so the build before and the build after give the same.
-pub read_one_answer : (text : List ℕ) (r q : Reading) → Reads text r → Reads text q → r ≡ q
-read_one_answer text r q e f = e ∙ sym f
+pub read_one_answer : (text : List ℕ) (r q : Result Reading Refused) → Reads text r → Reads text q → r ≡ q
+read_one_answer text r q e f = same_answer r q (e ∙ sym f)
 
 -- The first bad line of a text goes before every refusal but 1, also where it stands behind a line that is refused.
-pub read_bad_first : (text : List ℕ) (r : Reading) → Reads text r → length text ≤ 16384 → (bad_line text ≡ 0 → ⊥)
-    → (r.number ≡ 2) × (r.line ≡ bad_line text)
-unfolding reading_of
+pub read_bad_first : (text : List ℕ) (r : Result Reading Refused) → Reads text r → length text ≤ 16384 → (bad_line text ≡ 0 → ⊥)
+    → (answer_number r ≡ 2) × (answer_line r ≡ bad_line text)
 read_bad_first text r e fits bad =
     let is = e ∙ ap reading_of (ill_formed text fits (bad_line text) refl bad) in
-    (ap (λ (x : Reading). x.number) is, ap (λ (x : Reading). x.line) is)
+    (ap number_in is, ap line_in is)
 
 -- "Let its count and its fields come out of one loop": what the loop gives of a line that is well formed, of any length.
 pub line_fields : (text : List ℕ) (at : ℕ) → at < length text → (l : Line) → l ≡ line_read text at → (l.count ≡ 0 → ⊥)
@@ -137,10 +139,10 @@ line_fields text at inside l is filled = rest_held text at inside l is filled
 -- ==== Document 02, (v), thirds that land. "An onset now goes to the nearest unit, an exact half upwards": an accepted text has an onset
 -- for each of its `4E` lines, in order, and where its `45` line has a duration each is at the unit nearest to its line's time. There is one
 -- such unit.
-pub read_nearest : (text : List ℕ) (r : Reading) → Reads text r → r.number ≡ 0 → is_tapped (playing_line (lines text)) ≡ false
+pub read_nearest : (text : List ℕ) (r : Reading) → Reads text (Ok r) → is_tapped (playing_line (lines text)) ≡ false
     → (r.playing.count ≡ length (onset_lines (lines text)))
     × ((i : ℕ) → i < r.playing.count → NearestUnit (four (playing_line (lines text)) 2) (time_at text i) (unit_at r i))
-read_nearest text r e z plain = ((units_read text r e z).count, plain_units_read text r e z plain)
+read_nearest text r e plain = ((units_read text r e).count, plain_units_read text r e plain)
 
 pub nearest_only : (d t u v : ℕ) → NearestUnit d t u → NearestUnit d t v → u ≡ v
 nearest_only = nearest.nearest_only
@@ -169,16 +171,16 @@ read_before_end text s a = (accepted_good text s a).onsets.below
 -- ==== Document 02, (vi), bar lines from a foot pedal. "The record of a sheet now holds all bar lines, and a sheet with a plain
 -- duration is read as evenly spaced ones": a reading has as many as there are bars and one more, those that the `45` line and the `42`
 -- lines tell, and no other behind them.
-pub read_bar_lines : (text : List ℕ) (r : Reading) → Reads text r → r.number ≡ 0
+pub read_bar_lines : (text : List ℕ) (r : Reading) → Reads text (Ok r)
     → (length (timing_by (playing_line (lines text)) (taps_of (lines text))).bar_lines ≡ r.playing.bars + 1)
     × ((i : ℕ) → bar_line_at r i ≡ line_at (timing_by (playing_line (lines text)) (taps_of (lines text))) i)
-read_bar_lines text r e z = let b = bar_lines_read text r e z in (b.count, b.each)
+read_bar_lines text r e = let b = bar_lines_read text r e in (b.count, b.each)
 
 -- "Within a bar an onset's unit is the nearest to its share of that bar's duration"
-pub read_share : (text : List ℕ) (r : Reading) → Reads text r → r.number ≡ 0
+pub read_share : (text : List ℕ) (r : Reading) → Reads text (Ok r)
     → (r.playing.count ≡ length (onset_lines (lines text)))
     × ((i : ℕ) → i < r.playing.count → NearestInBar r (time_at text i) (unit_at r i))
-read_share text r e z = let u = units_read text r e z in (u.count, u.nearest)
+read_share text r e = let u = units_read text r e in (u.count, u.nearest)
 
 -- One definition serves both sorts of sheet: of evenly spaced lines it is (v)'s.
 pub even_as_before : (B d : ℕ) → 0 < d → (t : ℕ) → t < B * d → unit_in (even_lines B d) t ≡ unit_of d t

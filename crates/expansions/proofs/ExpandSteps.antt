@@ -5,13 +5,13 @@ use mathlib.Core.Bool.{true, false, cond}
 use mathlib.Core.Logic.{inl, inr}
 use mathlib.Core.List.{List}
 use mathlib.Core.Option.{none, some, Option-elim}
+use Rattle.std.proofs.Common.{Option, Some, None}
 use native.Mathlib.Decide.{dec_le, ℕ_discrete}
 use native.Mathlib.Omega.{arith}
 use borrow.Author.Tests.{eq-eqb, ne_eqb, le-leb, lt-leb}
 use lib.Dec.{eqb, leb}
 use lib.ListN.{length}
 use Rattle.slices.specs.Every.{every_some}
-use Rattle.sheet.specs.declared.table.Rule.{Rule}
 use Rattle.sheet.specs.declared.table.Rule.TheVariants as cell
 use Rattle.sheet.specs.Sheet.{division, leaf, Sheet}
 use Rattle.sheet.specs.Sheet as meaning
@@ -21,7 +21,7 @@ use Rattle.trees.specs.Instance.{early_count, late_count, at_leaf, at_division, 
 use Rattle.trees.specs.Expansions.{leaf_expands, division_expands}
 use Rattle.expansions.specs.declared.Interval.{Interval}
 use Rattle.expansions.specs.declared.Expansion.{Expansion}
-use Rattle.expansions.specs.declared.Expansion.TheVariants.{Refused, Leaf, Division}
+use Rattle.expansions.specs.declared.Expansion.TheVariants.{Leaf, Division}
 use Rattle.expansions.specs.Tables.{cell_of}
 use Rattle.expansions.specs.RuleCells.{DivisionRule, division_rule}
 use Rattle.expansions.specs.Items.{first_at, item_of, LeafFits, LeafUnfit, AsLeaf, AsDivision, LeafMade, DivisionMade, Expands}
@@ -70,11 +70,11 @@ module _ (s : Sheet) (q : ℕ) (over : Interval) (c r : ℕ) where
         fits = m;
       }
 
-  pub leaf_as : (h w n : ℕ) (x : Expansion) → rule_at s r ≡ some (leaf h w n) → h ≡ q → AsLeaf s over c w n x
+  pub leaf_as : (h w n : ℕ) (x : Option Expansion) → rule_at s r ≡ some (leaf h w n) → h ≡ q → AsLeaf s over c w n x
       → Expands s (item_of q over) c r x
-  leaf_as h w n Refused e d a = leaf_unfit w n (rw d at e) a
-  leaf_as h w n (Leaf v i l f) e d (av, fit) = rw av (leaf_made w n i l f (rw d at e) fit)
-  leaf_as h w n (Division v k) e d a = absurd a
+  leaf_as h w n None e d a = leaf_unfit w n (rw d at e) a
+  leaf_as h w n (Some (Leaf v i l f)) e d (av, fit) = rw av (leaf_made w n i l f (rw d at e) fit)
+  leaf_as h w n (Some (Division v k)) e d a = absurd a
 
   -- a division of the item's head that is not allowed
   division_unfit : (w : ℕ) (ks : List ℕ) → rule_at s r ≡ some (division q w ks)
@@ -99,22 +99,22 @@ module _ (s : Sheet) (q : ℕ) (over : Interval) (c r : ℕ) where
   some_parts : GoodRules s.grammar → (h w : ℕ) (ks : List ℕ) → rule_at s r ≡ some (division h w ks) → 2 ≤ length ks
   some_parts good h w ks e = (every_some (GoodRule s.grammar.nonterminals) s.grammar.rules r _ good.rules e).two
 
-  division_by_lem : (w k : ℕ) (ks : List ℕ) (x : Expansion) → rule_at s r ≡ some (division q w ks) → k ≡ length ks → (k ≡ 0 → ⊥)
+  division_by_lem : (w k : ℕ) (ks : List ℕ) (x : Option Expansion) → rule_at s r ≡ some (division q w ks) → k ≡ length ks → (k ≡ 0 → ⊥)
       → AsDivision s over w k x → Expands s (item_of q over) c r x
-  division_by_lem w k ks Refused e f z a =
+  division_by_lem w k ks None e f z a =
       division_unfit w ks e (ap (λ j. may_divide s j over.left.0 over.len.0) (sym f) ∙ a z)
-  division_by_lem w k ks (Leaf v i l d) e f z a = absurd a
-  division_by_lem w k ks (Division v j) e f z (av, aj, am, az) =
+  division_by_lem w k ks (Some (Leaf v i l d)) e f z a = absurd a
+  division_by_lem w k ks (Some (Division v j)) e f z (av, aj, am, az) =
       rw (av, aj) (division_made w k ks e f (ap (λ j. may_divide s j over.left.0 over.len.0) (sym f) ∙ am))
 
   -- where the table has a division of no parts, the sheet has no rule
-  none_by : (w : ℕ) (x : Expansion) → rule_at s r ≡ none → AsDivision s over w 0 x → Expands s (item_of q over) c r x
+  none_by : (w : ℕ) (x : Option Expansion) → rule_at s r ≡ none → AsDivision s over w 0 x → Expands s (item_of q over) c r x
   unfolding instance_of Option-elim
-  none_by w Refused e a = rw e
-  none_by w (Leaf v i l d) e a = absurd a
-  none_by w (Division v j) e (av, aj, am, az) = absurd (az aj)
+  none_by w None e a = rw e
+  none_by w (Some (Leaf v i l d)) e a = absurd a
+  none_by w (Some (Division v j)) e (av, aj, am, az) = absurd (az aj)
 
-  pub division_as : GoodRules s.grammar → (h w k : ℕ) (x : Expansion) → cell_of (rule_at s r) ≡ cell.Division h w k → h ≡ q
+  pub division_as : GoodRules s.grammar → (h w k : ℕ) (x : Option Expansion) → cell_of (rule_at s r) ≡ cell.Division h w k → h ≡ q
       → AsDivision s over w k x → Expands s (item_of q over) c r x
   division_as good h w k x e d a = go (division_rule (rule_at s r) h w k e)
     where

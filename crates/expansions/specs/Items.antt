@@ -1,5 +1,5 @@
 -- One rule at one item, as functions compute it: what they are given, and what they give.
-use Rattle.std.specs.Prelude.{ℕ, ◌+◌, ◌≤◌, ◌≡◌, true, false, List, length}
+use Rattle.std.specs.Prelude.{ℕ, ◌+◌, ◌≤◌, ◌≡◌, true, false, List, length, Option, Some, None}
 use Rattle.std.proofs.Math.Option.{none, some}
 use Rattle.sheet.specs.Sheet.{division, leaf, Sheet}
 use Rattle.sheet.specs.Held.{units}
@@ -9,7 +9,7 @@ use Rattle.trees.specs.Instance.{early_count, late_count, own_distance, at_leaf,
 use Rattle.expansions.specs.declared.Interval.{Interval}
 use Rattle.expansions.specs.declared.Placed.{Placed}
 use Rattle.expansions.specs.declared.Expansion.{Expansion}
-use Rattle.expansions.specs.declared.Expansion.TheVariants.{Refused, Leaf, Division}
+use Rattle.expansions.specs.declared.Expansion.TheVariants.{Leaf, Division}
 use Rattle.expansions.specs.Tables.{RulesHeld, UnitsHeld, last_unit}
 
 -- an interval by its numbers
@@ -62,16 +62,16 @@ LeafUnfit s over c n =
     → n ≡ token (c + early_count s over.left.0 over.len.0) (first_at s over.left.0) → ⊥
 
 -- what `leaf_at` gives
-abbrev pub AsLeaf : Sheet → Interval → ℕ → ℕ → ℕ → Expansion → Type 0
-AsLeaf s over c w n Refused = LeafUnfit s over c n
-AsLeaf s over c w n (Leaf v e l d) = (v ≡ w) × LeafFits s over.left.0 over.len.0 c n e l d
-AsLeaf s over c w n (Division v k) = ⊥
+abbrev pub AsLeaf : Sheet → Interval → ℕ → ℕ → ℕ → Option Expansion → Type 0
+AsLeaf s over c w n None = LeafUnfit s over c n
+AsLeaf s over c w n (Some (Leaf v e l d)) = (v ≡ w) × LeafFits s over.left.0 over.len.0 c n e l d
+AsLeaf s over c w n (Some (Division v k)) = ⊥
 
 -- what `division_at` gives, of a division of weight w into k parts
-abbrev pub AsDivision : Sheet → Interval → ℕ → ℕ → Expansion → Type 0
-AsDivision s over w k Refused = (k ≡ 0 → ⊥) → may_divide s k over.left.0 over.len.0 ≡ false
-AsDivision s over w k (Leaf v e l d) = ⊥
-AsDivision s over w k (Division v a) = (v ≡ w) × (a ≡ k) × (may_divide s k over.left.0 over.len.0 ≡ true) × (a ≡ 0 → ⊥)
+abbrev pub AsDivision : Sheet → Interval → ℕ → ℕ → Option Expansion → Type 0
+AsDivision s over w k None = (k ≡ 0 → ⊥) → may_divide s k over.left.0 over.len.0 ≡ false
+AsDivision s over w k (Some (Leaf v e l d)) = ⊥
+AsDivision s over w k (Some (Division v a)) = (v ≡ w) × (a ≡ k) × (may_divide s k over.left.0 over.len.0 ≡ true) × (a ≡ 0 → ⊥)
 
 -- rule r is a leaf that fits the item
 pub record LeafMade (s : Sheet) (g : Item) (c r : ℕ) (w e l d : ℕ) : Type 0 where
@@ -89,7 +89,7 @@ pub record DivisionMade (s : Sheet) (g : Item) (c r : ℕ) (w k : ℕ) : Type 0 
   pub expands : (instance_of s).expand g c r ≡ some (at_division g c parts)
 
 -- what `expand` gives: the instance's expansion
-abbrev pub Expands : Sheet → Item → ℕ → ℕ → Expansion → Type 0
-Expands s g c r Refused = (instance_of s).expand g c r ≡ none
-Expands s g c r (Leaf w e l d) = LeafMade s g c r w e l d
-Expands s g c r (Division w k) = DivisionMade s g c r w k
+abbrev pub Expands : Sheet → Item → ℕ → ℕ → Option Expansion → Type 0
+Expands s g c r None = (instance_of s).expand g c r ≡ none
+Expands s g c r (Some (Leaf w e l d)) = LeafMade s g c r w e l d
+Expands s g c r (Some (Division w k)) = DivisionMade s g c r w k

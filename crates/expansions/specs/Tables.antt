@@ -20,7 +20,7 @@ unpacked_of x =
 -- a rule without the nonterminals of its parts; where there is no rule, a division of no parts, which no accepted sheet has
 abbrev pub cell_of : Option meaning.Rule → Rule
 cell_of none = Division 0 0 0
-cell_of (some r) = (rule_cell r).rule
+cell_of (some r) = rule_cell r
 
 -- each place holds its rule as a number
 abbrev pub PackedRules : Grammar → List ℕ → Type 0

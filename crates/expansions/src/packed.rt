@@ -1,5 +1,4 @@
-// The tables that an expansion reads. They are lent as arrays of numbers, since a reference to structs is not covered: rules packed one a
-// cell, and units as plain numbers.
+// The tables that an expansion reads, lent as arrays of numbers: rules packed one a cell, and units as plain numbers.
 ghost use Rattle.std.specs.Prelude.{◌≡◌, ◌<◌, ◌≤◌, get_or};
 ghost use Rattle.sheet.specs.Sheet.{Grammar, Playing};
 ghost use Rattle.sheet.specs.Good.{GoodOnsets};
@@ -63,12 +62,8 @@ pub fn pack_rules(g: GrammarTable) -> PackedRules
     ensures { (h : Grammar) → g ≡ grammar_table h → PackedRules h result }
 {
     let mut out = [0u64; RULES_MOST];
-    let mut i: usize = 0;
-    while i < RULES_MOST {
-        let cell = g.rules[i];
-        let rule = cell.rule;
-        out[i] = packed(rule);
-        i += 1;
+    for i in 0..RULES_MOST {
+        out[i] = packed(g.rules[i]);
     }
     out
 }
@@ -80,12 +75,8 @@ pub fn pack_units(p: PlayingTable) -> PackedUnits
     ensures { (q : Playing) → GoodOnsets q → p ≡ playing_table q → result ≡ unit_cells q }
 {
     let mut out = [PIECE_UNITS; UNIT_CELLS];
-    let n = p.count;
-    let mut i: usize = 0;
-    while i < n {
-        let unit = p.units[i];
-        out[i] = unit.0;
-        i += 1;
+    for i in 0..p.count {
+        out[i] = p.units[i].0;
     }
     out
 }

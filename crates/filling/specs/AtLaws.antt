@@ -48,7 +48,8 @@ module _ {s : Sheet} {plan us order rows pairs best : List ℕ} {bar : Bar} {fro
 
     along_is : d ≡ along e.of_bar e.length_in
     along_is =
-        let off : slice_index_or us from 0 - 20160 * bar.number ≡ unit_at s from - bar.number * 20160 = omega (arith, of_bar_unit e.of_bar) in
+        let off : slice_index_or us from 0 - 20160 * bar.number ≡ unit_at s from - bar.number * 20160 =
+        omega (arith, of_bar_unit e.of_bar) in
         ed ∙ ap (λ (n : ℕ). n % len) off ∙ ap (λ (n : ℕ). (unit_at s from - bar.number * 20160) % n) len_is
 
     left_is : left ≡ bound e.of_bar e.length_in
@@ -193,7 +194,8 @@ module _ {s : Sheet} {plan us order rows pairs best : List ℕ} {bar : Bar} {fro
             k : KeptTo s after pairs cells now l (used_in order)
             k = told s keep_asked
 
-            own : (q m : ℕ) → q < used_in order → m < 2 → slice_index cells (32 * l + 2 * q + m) ≡ packed_cell s (item_at s q l (units left)) 0 m
+            own : (q m : ℕ) → q < used_in order → m < 2
+                → slice_index cells (32 * l + 2 * q + m) ≡ packed_cell s (item_at s q l (units left)) 0 m
             own q m hq hm = k.cell q m hq hm ∙ solved.cell q m hq hm
 
             cell : (i : ℕ) (lo : Units) → l ≤ i → Lone s bar i lo from → (q m : ℕ) → q < used_in order → m < 2

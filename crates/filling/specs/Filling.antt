@@ -1,6 +1,6 @@
 -- Rows with one onset filled ahead: what the functions that fill them are given and give. The cells of an onset's intervals stand in a
 -- scratch array by length and nonterminal, since a division's part is shorter than the whole and has the same onset.
-use Rattle.std.specs.Prelude.{◌≡◌, ℕ, ◌+◌, ◌-◌, ◌*◌, ◌/◌, ◌%◌, ◌<◌, ◌≤◌, min, Bool, true, false, List, length, ◌≢◌, slice_index}
+use Rattle.std.specs.Prelude.{◌≡◌, ℕ, ◌+◌, ◌-◌, ◌*◌, ◌/◌, ◌%◌, ◌<◌, ◌≤◌, min, Bool, true, false, List, length, Option, ◌≢◌, slice_index}
 use Rattle.std.proofs.Math.Option.{some}
 use Rattle.sheet.specs.declared.clock.Units.{Units}
 use Rattle.sheet.specs.Sheet.{division, Sheet, bar_units}
@@ -10,7 +10,6 @@ use Rattle.trees.specs.Instance.{onsets_in}
 use Rattle.trees.specs.Intervals.{Aligned}
 use Rattle.expansions.specs.Items.{first_at}
 use Rattle.plan.specs.Plan.{lengths, length_at, arity_of}
-use Rattle.rows.specs.declared.one.Pair.{Pair}
 use Rattle.rows.specs.declared.slots.Bar.{Bar}
 use Rattle.rows.specs.OnsetLaws.{unit_at}
 use Rattle.rows.specs.PackedLaws.{packed_cell}
@@ -20,7 +19,7 @@ use Rattle.rows.specs.One.{LeafOne}
 use Rattle.filling.specs.Order.{IsDivision, UsedOf, first_of, used_in, ByArity, Ordered}
 
 -- what `fill_bar` is given
-pub record FillEntry (s : Sheet) (plan us order rows : List ℕ) (bar : Bar) : Type 0 where
+pub record FillEntry (s : Sheet) (plan us : List ℕ) (order : Option (List ℕ)) (rows : List ℕ) (bar : Bar) : Type 0 where
   pub in_bar_lem : InBar s plan us bar
   pub ordered : Ordered s order
   pub sound : Sound s rows

@@ -12,7 +12,7 @@ use Rattle.trees.proofs.RoomLaws.{good_division}
 use Rattle.trees.specs.Intervals.{Aligned}
 use Rattle.trees.proofs.IntervalLaws.{aligned_part}
 use Rattle.plan.specs.declared.Split.{Split}
-use Rattle.plan.specs.Plan.{Prepared, lengths, length_at, length_cell, arity_of, PartsOf, NoDivision}
+use Rattle.plan.specs.Plan.{Prepared, lengths, length_at, length_cell, arity_of, HasParts, NoParts, NoDivision}
 use Rattle.plan.specs.PlanLaws.{lengths_most, length_positive, part_listed}
 use Rattle.rows.specs.OnsetLaws.{unit_at}
 use Rattle.rows.specs.Slots.{item_at}
@@ -43,10 +43,10 @@ module _ {s : Sheet} {plan order pairs best : List ℕ} {l d : ℕ} (e : LengthE
   length_end {now} {k} is b =
       best_all b planned.good (λ r. omega (arith, arity_most s planned.good r))
 
-  module _ {k : ℕ} {x : Split} (two : 2 ≤ k) (eight : k ≤ 8) (told : PartsOf s l k x) where
+  module _ {k : ℕ} (two : 2 ≤ k) (eight : k ≤ 8) where
     -- there is no part
-    pub length_idle : {now : List ℕ} → x.arity ≡ 0 → Best s order now l e.left k → Best s order now l e.left (k + 1)
-    length_idle {now} z b = arity_idle b idle
+    pub length_idle : {now : List ℕ} → NoParts s l k → Best s order now l e.left k → Best s order now l e.left (k + 1)
+    length_idle {now} no_parts b = arity_idle b idle
       where
         idle : (r q w : ℕ) (ks : List ℕ) → rule_at s r ≡ some (division q w ks) → length ks ≡ k → NoDivision s q l r
         idle r q w ks rule many v js rule' divided = go (part_listed s planned.good r l q v js e.lone.length_in rule' divided)
@@ -55,22 +55,22 @@ module _ {s : Sheet} {plan order pairs best : List ℕ} {l d : ℕ} (e : LengthE
             same = sym (ap arity_of rule') ∙ ap arity_of rule ∙ many
 
             go : (i : ℕ) × (i < lengths s) × (length_at s l ≡ length js * length_at s i) → ⊥
-            go (i, less, whole) = told.idle z (omega arith) eight i less (whole ∙ ap (λ (n : ℕ). n * length_at s i) same)
+            go (i, less, whole) = no_parts two eight i less (whole ∙ ap (λ (n : ℕ). n * length_at s i) same)
 
     -- there is one
-    module _ (f : x.arity ≡ 0 → ⊥) where
+    module _ {x : Split} (told : HasParts s l k x) where
       abbrev h : ℕ
       h = x.part
 
       pub part-length : h < 84
-      part-length = omega (arith, told.shorter f, lengths_most s)
+      part-length = omega (arith, told.shorter, lengths_most s)
 
       module _ {len j : ℕ} (el : len ≡ length_cell plan h) (ej : j ≡ d / len) where
         len_is : len ≡ length_at s h
         len_is = el ∙ planned.length-at h part-length
 
         pub part_positive : 0 < len
-        part_positive = omega (arith, len_is, length_positive s planned.good h (told.shorter f))
+        part_positive = omega (arith, len_is, length_positive s planned.good h told.shorter)
 
         j_is : j ≡ (unit_at s e.from - e.left.0) / length_at s h
         j_is = ej ∙ ap (λ (n : ℕ). d / n) len_is ∙ ap (λ (n : ℕ). n / length_at s h) e.along
@@ -80,7 +80,7 @@ module _ {s : Sheet} {plan order pairs best : List ℕ} {l d : ℕ} (e : LengthE
             subst (OneAt s e.left.0 (length_at s h) k)
             (sym (j_is ∙ ap (λ (i : ℕ). (unit_at s i - e.left.0) / length_at s h) e.lone.first))
             (one_at s e.in_bar_lem.onsets.good e.left.0 (length_at s l) (lone_near e.in_bar_lem e.lone) e.lone.one
-            (length_at s h) k (told.whole f) (omega (arith, e.lone.first, e.lone.begun)))
+            (length_at s h) k told.whole (omega (arith, e.lone.first, e.lone.begun)))
 
         pub part_few : j < 8
         part_few = omega (arith, there.within)
@@ -88,14 +88,14 @@ module _ {s : Sheet} {plan order pairs best : List ℕ} {l d : ℕ} (e : LengthE
         aligned : (q : ℕ) → Aligned (e.bar.number * bar_units) (item_at s q h (units (e.left.0 + j * length_at s h)))
         aligned q =
             let part : length_at s l / k ≡ length_at s h =
-            ap (λ (n : ℕ). n / k) (told.whole f) ∙ mul-div_cancel_left (length_at s h) (omega arith) in
-            let even : length_at s l % k ≡ 0 = ap (λ (n : ℕ). n % k) (told.whole f) ∙ mul-mod_right k (length_at s h) in
+            ap (λ (n : ℕ). n / k) told.whole ∙ mul-div_cancel_left (length_at s h) (omega arith) in
+            let even : length_at s l % k ≡ 0 = ap (λ (n : ℕ). n % k) told.whole ∙ mul-mod_right k (length_at s h) in
             subst (λ (p : ℕ). Aligned (e.bar.number * bar_units) (record { nonterminal = q; left = e.left.0 + j * p; len = p })) part
             (aligned_part (e.bar.number * bar_units) (item_at s q l e.left) k j q (e.lone.aligned q) even there.within)
 
         part_lone : Lone s e.bar h (units (e.left.0 + j * length_at s h)) e.from
         part_lone = record {
-          length_in = told.shorter f;
+          length_in = told.shorter;
           aligned = aligned;
           first = e.lone.first ∙ sym (one_first s e.in_bar_lem.onsets.good e.left.0 (length_at s h) k j there);
           begun = e.lone.begun;
@@ -113,12 +113,12 @@ module _ {s : Sheet} {plan order pairs best : List ℕ} {l d : ℕ} (e : LengthE
             in_bar_lem = e.in_bar_lem;
             lone = e.lone;
             used = e.ordered.used;
-            part_in = told.shorter f;
-            whole = told.whole f;
+            part_in = told.shorter;
+            whole = told.whole;
             part = j_is;
             size = e.filled.size;
             cell = λ q m hq hm. e.filled.cell h (units (e.left.0 + j * length_at s h))
-                (omega (arith, part_behind s planned.good l h k e.lone.length_in (told.shorter f) two (told.whole f)))
+                (omega (arith, part_behind s planned.good l h k e.lone.length_in told.shorter two told.whole))
                 part_lone q m hq hm;
           };
           ordered = e.ordered;

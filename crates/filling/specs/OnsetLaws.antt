@@ -1,14 +1,12 @@
 -- All lengths of an onset, from the shortest to the longest, and all onsets of a bar. Assumes nothing.
-use Rattle.std.specs.Prelude.{◌≡◌, ℕ, ◌+◌, ◌-◌, ◌*◌, ◌<◌, ◌≤◌, List, length, slice_index_or}
-use Rattle.std.proofs.Common.{subst, ◌∙◌, arith}
+use Rattle.std.specs.Prelude.{◌≡◌, ℕ, ◌+◌, ◌-◌, ◌*◌, ◌<◌, ◌≤◌, List, length, Option, Some}
+use Rattle.std.proofs.Common.{subst, ap, ◌∙◌, arith}
 use Rattle.sheet.specs.Sheet.{Sheet, bar_units}
 use Rattle.expansions.specs.Items.{first_at}
-use Rattle.expansions.specs.Places.{first_most}
+use Rattle.expansions.specs.Tables.{UnitsHeld, last_unit}
 use Rattle.plan.specs.Plan.{lengths, lengths_cell}
 use Rattle.rows.specs.declared.slots.Bar.{Bar}
-use Rattle.rows.specs.OnsetLaws.{Behind, behind_start, behind_more}
-use Rattle.rows.specs.Slots.{Sound}
-use Rattle.filling.specs.Order.{worth_in}
+use Rattle.rows.specs.PartLaws.{FirstBehind}
 use Rattle.filling.specs.Filling.{FillEntry, Filled, AtEntry, FilledAt, OnsetEntry, OnsetFilled}
 
 -- ---- the lengths of an onset
@@ -47,46 +45,33 @@ module _ {s : Sheet} {plan us order rows pairs : List ℕ} {bar : Bar} {from : �
 
 -- ---- the onsets of a bar
 
-module _ {s : Sheet} {plan us order rows : List ℕ} {bar : Bar} (e : FillEntry s plan us order rows bar) where
-  -- the first i onsets of the piece are met, from the bar's first on
-  pub record BarTo (now pairs : List ℕ) (i : ℕ) : Type 0 where
-    pub behind : bar.first ≤ i
-    pub within : i ≤ first_at s (bar.number * bar_units + bar_units)
-    pub sound : Sound s now
-    pub size : length pairs ≡ 2688
+module _ {s : Sheet} {plan us order rows : List ℕ} {bar : Bar} where
+  -- where there is an order it is known whole
+  pub bar_given : {given : Option (List ℕ)} → given ≡ Some order → FillEntry s plan us given rows bar
+      → FillEntry s plan us (Some order) rows bar
+  bar_given is = subst (λ (o : Option (List ℕ)). FillEntry s plan us o rows bar) is
 
+module _ {s : Sheet} {plan us order rows : List ℕ} {bar : Bar} (e : FillEntry s plan us (Some order) rows bar) where
   pub bar_number : bar.number < 64
   bar_number = omega (arith, e.in_bar_lem.bar_in, e.in_bar_lem.onsets.good.sixty_four)
 
-  search : Behind s us bar.first (bar.number * bar_units) (bar.number * bar_units + bar_units)
-  search = record {
-    held = e.in_bar_lem.onsets;
-    first = e.in_bar_lem.bar_first;
-    ahead = omega arith;
-    near = omega (arith, bar_number);
+  -- the place of the first onset behind the bar is looked for
+  module _ {right : ℕ} (er : right ≡ bar_units * bar.number + bar_units) where
+    pub bar_search : (t : Sheet) × (left : ℕ) × UnitsHeld t us × (bar.first ≡ first_at t left) × (left ≤ right) × (right ≤ last_unit)
+    bar_search =
+        (s, bar.number * bar_units, e.in_bar_lem.onsets, e.in_bar_lem.bar_first, omega (arith, er), omega (arith, er, bar_number))
+
+    pub bar_end : {to : ℕ} → FirstBehind us bar.first right to → to ≡ first_at s (bar.number * bar_units + bar_units)
+    bar_end told =
+        told s (bar.number * bar_units) e.in_bar_lem.onsets e.in_bar_lem.bar_first (omega (arith, er)) (omega (arith, er, bar_number))
+        ∙ ap (λ (u : ℕ). first_at s u) (omega (arith, er))
+
+  -- an onset before it is of the bar
+  pub bar_asked : {now pairs : List ℕ} {i to : ℕ} → to ≡ first_at s (bar.number * bar_units + bar_units) → bar.first ≤ i
+      → i < to → OnsetFilled s now pairs → OnsetEntry s plan us order now pairs bar i
+  bar_asked et behind before p = record {
+    of_bar = record { in_bar_lem = e.in_bar_lem; behind = behind; before = omega (arith, et) };
+    ordered = e.ordered;
+    sound = p.sound;
+    size = p.size;
   }
-
-  pub bar_begin : {pairs : List ℕ} → length pairs ≡ 2688 → BarTo rows pairs bar.first
-  bar_begin size = record { behind = omega arith; within = behind_start search; sound = e.sound; size = size }
-
-  pub bar_place : {now pairs : List ℕ} {i : ℕ} → BarTo now pairs i → i ≤ 512
-  bar_place {i = i} p =
-      omega (arith, p.within, first_most s e.in_bar_lem.onsets.good (bar.number * bar_units + bar_units))
-
-  module _ {now pairs : List ℕ} {i : ℕ} (p : BarTo now pairs i) (before : slice_index_or us i 0 < 20160 * bar.number + 20160) where
-    next : (i + 1 ≤ first_at s (bar.number * bar_units + bar_units)) × (i + 1 ≤ 512)
-    next = behind_more search i p.within (omega arith)
-
-    pub bar_next : i + 1 ≤ 512
-    bar_next = next.1
-
-    pub bar_asked : worth_in order ≡ 1 → OnsetEntry s plan us order now pairs bar i
-    bar_asked worth = record {
-      of_bar = record { in_bar_lem = e.in_bar_lem; behind = p.behind; before = omega (arith, next.0) };
-      ordered = e.ordered worth;
-      sound = p.sound;
-      size = p.size;
-    }
-
-    pub bar_more : {after cells : List ℕ} → OnsetFilled s after cells → BarTo after cells (i + 1)
-    bar_more told = record { behind = omega (arith, p.behind); within = next.0; sound = told.sound; size = told.size }

@@ -1,24 +1,24 @@
 -- What a rule comes to at an interval with one onset, by the cells of the part that has the onset. Assumes nothing.
-use Rattle.std.specs.Prelude.{◌≡◌, ℕ, ◌+◌, ◌-◌, ◌*◌, ◌/◌, ◌<◌, ◌≤◌, min, List, length, slice_index}
+use Rattle.std.specs.Prelude.{◌≡◌, ℕ, ◌+◌, ◌-◌, ◌*◌, ◌/◌, ◌<◌, ◌≤◌, List, length, slice_index}
 use Rattle.std.proofs.Common.{sym, ap, subst, ◌∙◌, arith}
 use Rattle.std.proofs.Math.Option.{some}
 use Rattle.sheet.specs.declared.clock.Units.{Units}
 use Rattle.sheet.specs.Sheet.{division, Sheet}
 use Rattle.derivations.specs.Derivation.{Item}
 use Rattle.trees.specs.ValidTrees.{rule_at}
-use Rattle.trees.specs.LeastTotal.{NONE, cell_of}
+use Rattle.trees.specs.LeastTotal.{cell_of}
 use Rattle.expansions.specs.Tables.{last_unit}
 use Rattle.expansions.specs.Items.{first_at}
-use Rattle.plan.specs.Plan.{Prepared, length_at, child_cell, way_cell, WaysOf, Divides}
-use Rattle.plan.specs.PlanLaws.{lengths_most, child_at, straight_most, crossed_most, onward_most}
+use Rattle.plan.specs.Plan.{Prepared, length_at, child_cell, Divides}
+use Rattle.plan.specs.PlanLaws.{lengths_most, child_at}
 use Rattle.rows.specs.declared.one.Pair.{Pair}
 use Rattle.rows.specs.declared.slots.Bar.{Bar}
 use Rattle.rows.specs.OnsetLaws.{unit_at}
 use Rattle.rows.specs.PackedLaws.{packed_cell, packed_cell_most, packed_cell_is}
-use Rattle.rows.specs.Slots.{InBar, Stands, Inhabited}
+use Rattle.rows.specs.Slots.{InBar, Stands}
 use Rattle.rows.specs.NameLaws.{stands_near}
 use Rattle.rows.specs.OnePartLaws.{OneAt, one_at}
-use Rattle.rows.specs.OneTurnLaws.{part_at, one_more_zero, one_more_one}
+use Rattle.rows.specs.OneTurnLaws.{part_at}
 use Rattle.filling.specs.OrderLaws.{division_below, division_arity}
 use Rattle.filling.specs.Pairs.{pair_at, cell_in, pair_cell}
 use Rattle.rows.specs.One.{by_way, WayEntry, Comes}

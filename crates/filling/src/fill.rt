@@ -10,13 +10,13 @@ ghost use Rattle.filling.specs.Pairs.{pair_at, put_pair, lesser_pair};
 ghost use Rattle.filling.specs.Filling.{FillEntry, LoneBy, LeavesTo, RuleEntry, ArityEntry, Best, LengthEntry, Solved};
 ghost use Rattle.filling.specs.Filling.{KeepEntry, KeptTo, AtEntry, FilledAt, OnsetEntry, OnsetFilled};
 
-use crate::order::{Order, first_of, is_worth, named_at, used_in};
+use crate::order::{Order, first_of, named_at, used_in};
 use expansions::PackedUnits;
 use plan::{Plan, child, length_count, split_by};
 use rows::one::{Pair, by_way, leaf_one};
-use rows::slots::{Bar, place_of, store};
-use rows::vector::{NO_CELL, least};
-use sheet::{BAR_UNITS, NONTERMINALS_MOST, Units};
+use rows::slots::{Bar, first_behind, place_of, store};
+use rows::vector::NO_CELL;
+use sheet::{BAR_UNITS, NONTERMINALS_MOST, PARTS_MOST, Units};
 use sizes::LENGTHS_MOST;
 
 // The cells of a length's pairs: two for each nonterminal.
@@ -30,16 +30,7 @@ fn lone(units: &PackedUnits, first: usize, from: usize, left: Units, right: Unit
     requires { (first ≤ from) × (from < 512) }
     ensures { LoneBy units.now first from left.0 right.0 result }
 {
-    if units[from + 1] < right.0 {
-        return false;
-    }
-    if from == first {
-        return true;
-    }
-    if units[from - 1] < left.0 {
-        return true;
-    }
-    false
+    right.0 <= units[from + 1] && (from == first || units[from - 1] < left.0)
 }
 
 // The pair of cells at a place.
@@ -68,8 +59,8 @@ fn lower(cells: &mut [u64], at: usize, x: Pair)
     ensures { cells.new ≡ put_pair cells.old at (lesser_pair (pair_at cells.old at) x) }
 {
     let y = pair_at(&cells[..], at);
-    let zero = least(y.zero, x.zero);
-    let one = least(y.one, x.one);
+    let zero = y.zero.min(x.zero);
+    let one = y.one.min(x.one);
     put_pair(cells, at, Pair { zero, one });
 }
 
@@ -78,30 +69,28 @@ fn fill_leaves(plan: &Plan, best: &mut [u64], used: usize, len: Units, d: Units)
     requires { (used ≤ 16) × (length best.old ≡ 32) × (d.0 ≤ len.0) × (len.0 ≤ last_unit) × ((s : Sheet) × Prepared s plan.now) }
     ensures { LeavesTo plan.now best.new len.0 d.0 used }
 {
-    let mut q: usize = 0;
-    while q < used {
+    for q in 0..used {
         let y = leaf_one(plan, q, len, d);
         put_pair(best, 2 * q, y);
-        q += 1;
     }
 }
 
 // What rule r comes to, where its part j, of the length with index h, has the onset.
-fn rule_pair<'a>(plan: &'a Plan, pairs: &'a [u64], r: usize, h: usize, j: usize) -> Pair
+fn rule_pair(plan: &Plan, pairs: &[u64], r: usize, h: usize, j: usize) -> Pair
     requires { (s : Sheet) × RuleEntry s plan.now pairs.now r h j }
     ensures { (s : Sheet) (e : RuleEntry s plan.now pairs.now r h j)
         → Comes s e.rule.head e.known.l e.known.left r result }
 {
     let q = child(plan, r, j);
-    let y = pair_at(pairs, 32 * h + 2 * q);
+    let y = pair_at(pairs, BEST_CELLS * h + 2 * q);
     by_way(plan, r, j, y)
 }
 
 // Lowers the cells by the rules of k parts, where part j, of the length with index h, has the onset.
-fn fill_arity<'a>(
-    plan: &'a Plan,
-    order: &'a Order,
-    pairs: &'a [u64],
+fn fill_arity(
+    plan: &Plan,
+    order: &Order,
+    pairs: &[u64],
     best: &mut [u64],
     k: usize,
     h: usize,
@@ -111,47 +100,32 @@ fn fill_arity<'a>(
     ensures { (s : Sheet) (e : ArityEntry s plan.now order.now pairs.now best.old k h j)
         → Best s order.now best.new e.known.l e.known.left (k + 1) }
 {
-    let end = first_of(order, k + 1);
-    let mut n = first_of(order, k);
-    while n < end {
+    for n in first_of(order, k)..first_of(order, k + 1) {
         let x = named_at(order, n);
-        n += 1;
         let y = rule_pair(plan, pairs, x.rule, h, j);
         lower(best, 2 * x.head, y);
     }
 }
 
 // Lowers the cells of the leaves of an interval, of the length with index l, by all rules; the only onset is d behind its left bound.
-fn fill_length<'a>(
-    plan: &'a Plan,
-    order: &'a Order,
-    pairs: &'a [u64],
-    best: &mut [u64],
-    l: usize,
-    d: Units,
-)
+fn fill_length(plan: &Plan, order: &Order, pairs: &[u64], best: &mut [u64], l: usize, d: Units)
     requires { (s : Sheet) × LengthEntry s plan.now order.now pairs.now best.old l d.0 }
     ensures { (s : Sheet) (e : LengthEntry s plan.now order.now pairs.now best.old l d.0)
         → Solved s order.now best.new l e.left }
 {
-    let mut k: usize = 2;
-    while k < 9 {
-        let arity = k;
-        k += 1;
-        let split = split_by(plan, l, arity);
-        if split.arity != 0 {
-            let h = split.part;
-            let len = plan::length(plan, h);
+    for k in 2..PARTS_MOST + 1 {
+        if let Some(split) = split_by(plan, l, k) {
+            let len = plan::length(plan, split.part);
             let j = (d.0 / len.0) as usize;
-            fill_arity(plan, order, pairs, best, arity, h, j);
+            fill_arity(plan, order, pairs, best, k, split.part, j);
         }
     }
 }
 
 // Stores the cells of an interval: beside those of shorter ones, and in the table.
-fn keep<'a>(
-    plan: &'a Plan,
-    order: &'a Order,
+fn keep(
+    plan: &Plan,
+    order: &Order,
     rows: &mut [u64],
     pairs: &mut [u64],
     best: &[u64],
@@ -164,27 +138,24 @@ fn keep<'a>(
         → KeepEntry s plan.now order.now rows.old pairs.old best.now bar l from
         → KeptTo s rows.new pairs.old pairs.new best.now l (used_in order.now) }
 {
-    let used = used_in(order);
-    let mut q: usize = 0;
-    while q < used {
+    for q in 0..used_in(order) {
         let y = pair_at(best, 2 * q);
         let at = place_of(plan, bar, q, l, from, 0);
-        put_pair(pairs, 32 * l + 2 * q, y);
+        put_pair(pairs, BEST_CELLS * l + 2 * q, y);
         store(
             rows,
             at,
             [y.zero, y.one, NO_CELL, NO_CELL],
             (bar.number as u64) + 1,
         );
-        q += 1;
     }
 }
 
 // Stores the rows of the interval of the length with index l around the onset at place `from`, where it is the only one inside.
-fn fill_at<'a>(
-    plan: &'a Plan,
-    units: &'a PackedUnits,
-    order: &'a Order,
+fn fill_at(
+    plan: &Plan,
+    units: &PackedUnits,
+    order: &Order,
     rows: &mut [u64],
     pairs: &mut [u64],
     best: &mut [u64],
@@ -212,10 +183,10 @@ fn fill_at<'a>(
 
 // Stores the rows of the intervals in which the onset at place `from` is the only one; none for the first of the piece, since a part before
 // it is a rest.
-fn fill_onset<'a>(
-    plan: &'a Plan,
-    units: &'a PackedUnits,
-    order: &'a Order,
+fn fill_onset(
+    plan: &Plan,
+    units: &PackedUnits,
+    order: &Order,
     rows: &mut [u64],
     pairs: &mut [u64],
     bar: Bar,
@@ -230,33 +201,23 @@ fn fill_onset<'a>(
         return;
     }
     let mut best = [0; BEST_CELLS];
-    let mut l = length_count(plan);
-    while 0 < l {
-        l -= 1;
+    for l in (0..length_count(plan)).rev() {
         fill_at(plan, units, order, rows, pairs, &mut best, bar, from, l);
     }
 }
 
 // Stores the rows of all intervals of a bar that have one onset, not the first of the piece, from carry state 0, where that is worth it.
-pub fn fill_bar<'a>(
-    plan: &'a Plan,
-    units: &'a PackedUnits,
-    order: &'a Order,
-    rows: &mut [u64],
-    bar: Bar,
-)
+pub fn fill_bar(plan: &Plan, units: &PackedUnits, order: &Option<Order>, rows: &mut [u64], bar: Bar)
     requires { (s : Sheet) × FillEntry s plan.now units.now order.now rows.old bar }
     ensures { (s : Sheet) → FillEntry s plan.now units.now order.now rows.old bar
         → Sound s rows.new }
 {
-    if !is_worth(order) {
+    let Some(order) = order else {
         return;
-    }
+    };
     let end = BAR_UNITS * (bar.number as u32) + BAR_UNITS;
     let mut pairs = [0; PAIRS_CELLS];
-    let mut i = bar.first;
-    while units[i] < end {
+    for i in bar.first..first_behind(units, bar.first, Units(end)) {
         fill_onset(plan, units, order, rows, &mut pairs, bar, i);
-        i += 1;
     }
 }

@@ -3,29 +3,22 @@
 use Prim.Native.Nat.{ℕ, ◌+◌, ◌-◌, ◌*◌, ◌≤◌, ◌<◌}
 use mathlib.Core.Path.{◌≡◌, refl, sym, ap, ◌∙◌}
 use mathlib.Core.List.{List}
-use mathlib.Core.Option.{Option, none, some, Option-elim}
 use native.Mathlib.Omega.{arith}
 use lib.ListN.{length, drop, get_or, drop_of_length-le}
 use Rattle.slices.specs.Every.{every_in, every_weaken}
 use Rattle.slices.specs.Lookup.{drop-step}
 use Rattle.sheet.specs.declared.table.Rule as held
 use Rattle.sheet.specs.declared.table.GrammarTable.{GrammarTable}
-use Rattle.sheet.specs.Sheet.{Rule, division, leaf, Sheet}
-use Rattle.sheet.specs.Held.{grammar_table}
-use Rattle.trees.specs.ValidTrees.{rule_at, weight_of, weight_at, rule_weight, total_of}
+use Rattle.sheet.specs.Sheet.{Sheet}
+use Rattle.sheet.specs.Held.{grammar_table, weight_in}
+use Rattle.trees.specs.ValidTrees.{rule_at, weight_at, rule_weight, total_of}
 use Rattle.trees.proofs.Theorems.{valid_bytes, nodes_most}
-use Rattle.expansions.specs.Tables.{unpacked_of, cell_of, PackedRules}
+use Rattle.expansions.specs.Tables.{unpacked_of, PackedRules}
+use Rattle.expansions.specs.RuleCells.{cell_weight}
 use Rattle.pricing.specs.Pricing.{priced, priced_of}
-use Rattle.finding.specs.Clauses.{weight_in, WeightPre, FiguresPre}
+use Rattle.finding.specs.Clauses.{WeightPre, FiguresPre}
 
 -- ---- `weight_sum`
-
--- a cell has the weight of its rule, and 0 where there is none
-cell_weight : (o : Option Rule) → weight_in (cell_of o) ≡ Option-elim o 0 weight_of
-unfolding Option-elim
-cell_weight none = refl
-cell_weight (some (division h w ks)) = refl
-cell_weight (some (leaf h w n)) = refl
 
 -- a number of the list is a place of the packed rules
 pub rule_below : {s : Sheet} {rules list : List ℕ} → WeightPre s rules list → (i : ℕ) → i < length list → get_or list i 0 < 64
@@ -34,9 +27,6 @@ rule_below {list = list} e i h = every_in (λ (r : ℕ). r < 64) list i 0 h e.be
 -- the weights of the first i rules of a list are summed
 abbrev pub SummedTo : (rules list : List ℕ) → (sum i : ℕ) → Type 0
 SummedTo rules list sum i = (s : Sheet) → PackedRules s.grammar rules → sum + rule_weight s (drop i list) ≡ rule_weight s list
-
-pub none_summed : (rules list : List ℕ) → SummedTo rules list 0 0
-none_summed rules list s p = omega arith
 
 module _ (rules list : List ℕ) (sum i : ℕ) (t : SummedTo rules list sum i) where
   pub one_summed : i < length list → (r : ℕ) → r ≡ get_or list i 0 → r < 64 → (rule : held.Rule) → rule ≡ unpacked_of (get_or rules r 0)

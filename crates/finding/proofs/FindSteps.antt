@@ -11,8 +11,7 @@ use Rattle.sheet.specs.declared.table.GrammarTable.{GrammarTable}
 use Rattle.sheet.specs.declared.table.PlayingTable.{PlayingTable}
 use Rattle.sheet.specs.declared.table.Reading.{Reading}
 use Rattle.sheet.specs.Sheet.{Grammar, Sheet}
-use Rattle.sheet.specs.Reading.{read_sheet}
-use Rattle.sheet.specs.Held.{grammar_table, playing_table, reading_of}
+use Rattle.sheet.specs.Held.{grammar_table, playing_table, Reads}
 use Rattle.sheet.specs.Good.{GoodRules, Good}
 use Rattle.sheet.specs.Outcome.{Outcome, refused}
 use Rattle.sheet.specs.Accepted.{SheetHeld}
@@ -23,14 +22,16 @@ use Rattle.sizes.specs.Held.{length_table}
 use Rattle.sizes.specs.SizesLaws.{table_count}
 use Rattle.trees.specs.ValidTrees.{ValidTree, total_of}
 use Rattle.trees.specs.LeastTotal.{NONE, least_total}
-use Rattle.pricing.specs.declared.Priced.{Priced}
-use Rattle.pricing.specs.Pricing.{priced, priced_of}
-use Rattle.search.specs.declared.Found.TheVariants.{NoTree, Tree}
+use Rattle.pricing.specs.Pricing.{priced, priced_of, Answer}
+use Rattle.std.specs.Prelude.{Some, None, Ok, Err}
+use Rattle.sheet.specs.declared.refusal.Refused.{Refused}
+use Rattle.search.specs.declared.Found.{Found}
 use Rattle.search.specs.Clauses.{SearchPre, Searched}
 use Rattle.finding.specs.Finding.{has_tree, Search, find_sheet, find_text, Gives, Finds}
 use Rattle.finding.specs.Clauses.{FiguresPre}
 use Rattle.finding.specs.Outcomes.{work_short, tree_short, none_found, one_found, gives}
 use Rattle.finding.specs.FindingLaws.{tree_fits, has_tree_lem}
+use Rattle.sheet.specs.Refusal.{number_of, outcome_of}
 
 -- what `lengths`, `work_cells_by` and `tree_bytes` tell
 abbrev LengthsTold : GrammarTable → LengthTable → Type 0
@@ -56,10 +57,10 @@ module _ {s : Sheet} {g : GrammarTable} {p : PlayingTable} (h : SheetHeld s g p)
       let lengths_are = lengths-told s.grammar h.good.rules h.grammar in
       cells_told s h.good h.grammar h.playing (table_count s.grammar.rules reached lengths_are)
 
-  pub short_work : length work < cells → (r : Priced) → r ≡ priced_of (refused 9 0)
+  pub short_work : length work < cells → (r : Answer) → outcome_of r ≡ priced_of (refused 9 0)
       → Gives (find_sheet s (length tree) (length work)) tree tree work work r
   short_work w r e =
-      gives _ _ (work_short s (length tree) (length work) (omega (arith, required))) (record { zeros = e; tree_kept = refl }, refl)
+      gives _ _ (work_short s (length tree) (length work) (omega (arith, required))) (record { is = e; tree_kept = refl }, refl)
 
   module _ (w : cells ≤ length work) (bytes : ℕ) (bytes-told : BytesTold p bytes) where
     enough : work_cells s ≤ length work
@@ -68,11 +69,11 @@ module _ {s : Sheet} {g : GrammarTable} {p : PlayingTable} (h : SheetHeld s g p)
     room_required : bytes ≡ tree_bytes s
     room_required = bytes-told s h.playing
 
-    pub short_tree : length tree < bytes → (r : Priced) → r ≡ priced_of (refused 10 0)
+    pub short_tree : length tree < bytes → (r : Answer) → outcome_of r ≡ priced_of (refused 10 0)
         → Gives (find_sheet s (length tree) (length work)) tree tree work work r
     short_tree t r e =
         gives _ _ (tree_short s (length tree) (length work) enough (omega (arith, room_required)))
-        (record { zeros = e; tree_kept = refl }, refl)
+        (record { is = e; tree_kept = refl }, refl)
 
     pub search_pre : bytes ≤ length tree → SearchPre s g p tree work
     search_pre t = record { held = h; tree_size = omega (arith, room_required); work_size = enough }
@@ -81,15 +82,15 @@ module _ {s : Sheet} {g : GrammarTable} {p : PlayingTable} (h : SheetHeld s g p)
 module _ {s : Sheet} {g : GrammarTable} {p : PlayingTable} {tree work : List ℕ} (entry : SearchPre s g p tree work)
     (after clear : List ℕ)
   where
-    pub nothing_found : Searched s tree after work clear NoTree → (r : Priced) → r ≡ priced_of (refused 11 0)
+    pub nothing_found : Searched s tree after work clear None → (r : Answer) → outcome_of r ≡ priced_of (refused 11 0)
         → Gives (find_sheet s (length tree) (length work)) tree after work clear r
     unfolding has_tree
     nothing_found f r e =
         gives _ _ (none_found s (length tree) (length work) entry.work_size entry.tree_size
         (le-ltb (least_total s) NONE f.found.0))
-        (record { zeros = e; tree_kept = f.found.1 }, f.clear)
+        (record { is = e; tree_kept = f.found.1 }, f.clear)
 
-    module _ (n total : ℕ) (f : Searched s tree after work clear (Tree n total)) where
+    module _ (x : Found) (f : Searched s tree after work clear (Some x)) where
       abbrev bs : List ℕ
       bs = f.found.0
 
@@ -99,16 +100,16 @@ module _ {s : Sheet} {g : GrammarTable} {p : PlayingTable} {tree work : List ℕ
       fits : length bs ≤ length tree
       fits = omega (arith, entry.tree_size, tree_fits s entry.held.good bs valid)
 
-      pub nodes_fit : n ≤ length after
+      pub nodes_fit : x.nodes ≤ length after
       nodes_fit = omega (arith, fits, f.found.4, ap length f.found.5, length-over bs tree)
 
-      pub front_size : n ≡ length (take n after)
-      front_size = sym (length-take-le n after nodes_fit)
+      pub front_size : x.nodes ≡ length (take x.nodes after)
+      front_size = sym (length-take-le x.nodes after nodes_fit)
 
-      front : take n after ≡ bs
+      front : take x.nodes after ≡ bs
       front = ap (λ (m : ℕ). take m after) f.found.4 ∙ ap (take (length bs)) f.found.5 ∙ take-over bs tree fits
 
-      pub figures_pre : FiguresPre s g (take n after) f.found.1 f.found.2 total
+      pub figures_pre : FiguresPre s g (take x.nodes after) f.found.1 f.found.2 x.total
       figures_pre = record {
         good = entry.held.good;
         held = entry.held.grammar;
@@ -119,7 +120,7 @@ module _ {s : Sheet} {g : GrammarTable} {p : PlayingTable} {tree work : List ℕ
       abbrev found_total : ℕ
       found_total = total_of s f.found.1 f.found.2
 
-      pub tree_found : (r : Priced) → r ≡ priced_of (priced (length (take n after)) f.found.1 f.found.2 found_total)
+      pub tree_found : (r : Answer) → outcome_of r ≡ priced_of (priced (length (take x.nodes after)) f.found.1 f.found.2 found_total)
           → Gives (find_sheet s (length tree) (length work)) tree after work clear r
       tree_found r e =
           gives _ _ (one_found s (length tree) (length work) entry.work_size entry.tree_size
@@ -137,20 +138,20 @@ module _ {s : Sheet} {g : GrammarTable} {p : PlayingTable} {tree work : List ℕ
 
 -- ---- `find`
 
-module _ (text tree work : List ℕ) (r : Reading) (e : r ≡ reading_of (read_sheet text)) (x : Priced) where
+module _ (text tree work : List ℕ) where
   -- a text that is refused
-  pub text_refused : (r.number ≡ 0 → ⊥) → x ≡ priced_of (refused r.number r.line) → Finds text tree tree work work x
+  pub text_refused : (e : Refused) → Reads text (Err e) → Finds text tree tree work work (Err e)
   unfolding find_text
-  text_refused k q =
-      gives _ (refused r.number r.line) (on_refused text r e (λ s. find_sheet s (length tree) (length work)) k)
-      (record { zeros = q; tree_kept = refl }, refl)
+  text_refused e h =
+      gives _ (refused (number_of e.refusal) e.line) (on_refused text (λ s. find_sheet s (length tree) (length work)) e h)
+      (record { is = refl; tree_kept = refl }, refl)
 
   -- a text that means a sheet
-  pub text_found : (treeAfter workAfter : List ℕ) → r.number ≡ 0
+  pub text_found : (r : Reading) → Reads text (Ok r) → (treeAfter workAfter : List ℕ) (x : Answer)
       → ((s : Sheet) → SheetHeld s r.grammar r.playing
       → Gives (find_sheet s (length tree) (length work)) tree treeAfter work workAfter x)
       → Finds text tree treeAfter work workAfter x
   unfolding find_text
-  text_found treeAfter workAfter z f =
-      on_held text r e (λ s. find_sheet s (length tree) (length work))
-      (λ (o : Outcome Search). Gives o tree treeAfter work workAfter x) z f
+  text_found r h treeAfter workAfter x f =
+      on_held text (λ s. find_sheet s (length tree) (length work))
+      (λ (o : Outcome Search). Gives o tree treeAfter work workAfter x) r h f

@@ -5,6 +5,8 @@ use Rattle.sheet.specs.Accepted.{Accepts}
 use Rattle.sizes.specs.Sizes.{tree_bytes, work_cells}
 use Rattle.pricing.specs.declared.Priced.{Priced}
 use Rattle.finding.specs.Finding.{Finds}
+use Rattle.sheet.specs.Refusal.{answer_number}
+use Rattle.pricing.specs.Pricing.{Answer, figures_in}
 
 -- a call of `find`, by whatever meets its contract: the text, both slices before and after it, and what is given
 pub record Call : Type 0 where
@@ -13,17 +15,17 @@ pub record Call : Type 0 where
   pub tree' : List ℕ
   pub work : List ℕ
   pub work' : List ℕ
-  pub answer : Priced
+  pub answer : Answer
   pub finds : Finds text tree tree' work work' answer
 
 -- "the tree found": the bytes at the front of the tree slice, as many as the node count given
 abbrev pub found_bytes : Call → List ℕ
-found_bytes x = take x.answer.nodes x.tree'
+found_bytes x = take (figures_in x.answer).nodes x.tree'
 
 -- it hands back a tree of the sheet s
 pub record TreeOf (s : Sheet) (x : Call) : Type 0 where
   pub means : Accepts x.text s
-  pub handed : x.answer.number ≡ 0
+  pub handed : answer_number x.answer ≡ 0
 
 -- its slices have the lengths that the sheet s requires
 pub record RoomFor (s : Sheet) (x : Call) : Type 0 where

@@ -2,8 +2,6 @@
 -- are given.
 use Rattle.std.specs.Prelude.{ℕ, ◌≤◌, ◌<◌, ◌≡◌, List, length}
 use Rattle.slices.specs.Every.{Every}
-use Rattle.sheet.specs.declared.table.Rule.{Rule}
-use Rattle.sheet.specs.declared.table.Rule.TheVariants.{Division, Leaf}
 use Rattle.sheet.specs.declared.table.GrammarTable.{GrammarTable}
 use Rattle.sheet.specs.Sheet.{Sheet}
 use Rattle.sheet.specs.Held.{grammar_table}
@@ -11,11 +9,7 @@ use Rattle.sheet.specs.Good.{Good}
 use Rattle.trees.specs.ValidTrees.{Priced, total_of}
 use Rattle.trees.specs.Room.{tree_most}
 use Rattle.expansions.specs.Tables.{PackedRules}
-
--- the weight in a rule's cell
-abbrev pub weight_in : Rule → ℕ
-weight_in (Division h w k) = w
-weight_in (Leaf h w n) = w
+use Rattle.sheet.specs.Outcome.{accepted}
 
 -- a sheet's packed rules, and a list of rule numbers that is no longer than a tree
 pub record WeightPre (s : Sheet) (rules list : List ℕ) : Type 0 where

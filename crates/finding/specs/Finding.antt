@@ -11,7 +11,8 @@ use Rattle.trees.specs.ValidTrees.{total_of}
 use Rattle.trees.specs.LeastTotal.{NONE, least_total}
 use Rattle.trees.specs.LeastTrees.{FirstTree}
 use Rattle.pricing.specs.declared.Priced.{Priced}
-use Rattle.pricing.specs.Pricing.{priced, priced_of}
+use Rattle.pricing.specs.Pricing.{priced, priced_of, Answer}
+use Rattle.sheet.specs.Refusal.{outcome_of, answer_number, answer_line}
 
 -- Whether some list of bytes, of any length, is a valid tree, by computing. `FindingLaws` shows that it is so: `has_tree_lem`, `some_tree`,
 -- `has_none`.
@@ -51,33 +52,33 @@ abbrev pub cleared : Sheet → (work : List ℕ) → List ℕ
 cleared s work = over (replicate (work_cells s) 0) work
 
 -- "A refusal gives its number, the line [..] and zeros elsewhere; every slice keeps its bytes, except work after 11"
-pub record Refused (number line : ℕ) (tree treeAfter : List ℕ) (answer : Priced) : Type 0 where
-  pub zeros : answer ≡ priced_of (refused number line)
+pub record Refused (number line : ℕ) (tree treeAfter : List ℕ) (answer : Answer) : Type 0 where
+  pub is : outcome_of answer ≡ refused number line
   pub tree_kept : treeAfter ≡ tree
 
 -- "It gives what pricing its tree gives, and writes the tree from the front; later bytes are kept [..] it is valid and has the least
 -- total"; "among all least trees, the one whose byte list is smallest in dictionary order"
-pub record FoundTree (s : Sheet) (tree treeAfter : List ℕ) (answer : Priced) : Type 0 where
+pub record FoundTree (s : Sheet) (tree treeAfter : List ℕ) (answer : Answer) : Type 0 where
   pub bytes : List ℕ
   pub weight : ℕ
   pub distance : ℕ
   pub first : FirstTree s bytes weight distance
-  pub figures : answer ≡ priced_of (priced (length bytes) weight distance (total_of s weight distance))
+  pub figures : outcome_of answer ≡ priced_of (priced (length bytes) weight distance (total_of s weight distance))
   pub tree_written : treeAfter ≡ over bytes tree
 
 -- the answer and the slices, by what finding comes to
-abbrev pub Result : Outcome Search → (tree treeAfter work workAfter : List ℕ) → (answer : Priced) → Type 0
+abbrev pub Result : Outcome Search → (tree treeAfter work workAfter : List ℕ) → (answer : Answer) → Type 0
 Result (refused k n) tree treeAfter work workAfter answer = Refused k n tree treeAfter answer × (workAfter ≡ work)
 Result (accepted (no_tree s)) tree treeAfter work workAfter answer = Refused 11 0 tree treeAfter answer × (workAfter ≡ cleared s work)
 Result (accepted (found s)) tree treeAfter work workAfter answer = FoundTree s tree treeAfter answer × (workAfter ≡ cleared s work)
 
 -- the number and the line are the outcome's, and so is the result
-pub record Gives (o : Outcome Search) (tree treeAfter work workAfter : List ℕ) (answer : Priced) : Type 0 where
-  pub number : answer.number ≡ number_of o
-  pub line : answer.line ≡ line_of o
+pub record Gives (o : Outcome Search) (tree treeAfter work workAfter : List ℕ) (answer : Answer) : Type 0 where
+  pub number : answer_number answer ≡ number_of o
+  pub line : answer_line answer ≡ line_of o
   pub result : Result o tree treeAfter work workAfter answer
 
 -- what finding gives of a text and two slices, for every text and every length and content of the slices
-abbrev pub Finds : (text tree treeAfter work workAfter : List ℕ) → (answer : Priced) → Type 0
+abbrev pub Finds : (text tree treeAfter work workAfter : List ℕ) → (answer : Answer) → Type 0
 Finds text tree treeAfter work workAfter answer =
     Gives (find_text text (length tree) (length work)) tree treeAfter work workAfter answer

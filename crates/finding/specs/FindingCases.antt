@@ -31,7 +31,7 @@ use Rattle.trees.specs.ValidTrees as trees
 use Rattle.trees.specs.ValidTrees.{total_of}
 use Rattle.trees.specs.LeastTrees.{one_first_tree}
 use Rattle.pricing.specs.declared.Priced.{Priced}
-use Rattle.pricing.specs.Pricing.{Figures, priced, price_sheet, priced_of}
+use Rattle.pricing.specs.Pricing.{Figures, priced, price_sheet, priced_of, Answer}
 use Rattle.pricing.specs.PricingLaws.{price_own}
 use Rattle.finding.specs.Finding.{Search, found, no_tree, find_sheet, find_text, cleared, FoundTree, Result, Gives, Finds}
 use Rattle.finding.specs.Outcomes.{work_short, tree_short, one_found, none_found}
@@ -39,30 +39,31 @@ use Rattle.finding.specs.FindingLaws.{has_tree_lem, has_none, sheet_found}
 use Rattle.finding.specs.CaseLaws.{alike_eq, first_computed, no_tree_lem}
 use Rattle.finding.specs.Cases.{Case, cases, alike, none_before, carries_out, every_list, judged_tree, judged, holds}
 use Rattle.finding.specs.Cases.{bar_or_halves, equals, all_computed, equals_computed}
+use Rattle.sheet.specs.Refusal.{outcome_of}
 
 -- what is given of a case, and how the slices are left
-pub record Answered (c : Case) (tree treeAfter work workAfter : List ℕ) (answer : Priced) : Type 0 where
-  pub answer_is : answer ≡ priced_of c.gives
+pub record Answered (c : Case) (tree treeAfter work workAfter : List ℕ) (answer : Answer) : Type 0 where
+  pub answer_is : outcome_of answer ≡ priced_of c.gives
   pub tree_is : treeAfter ≡ over c.bytes tree
   pub work_is : workAfter ≡ over (replicate c.cells 0) work
 
 -- by whatever meets the contract
 abbrev pub Answers : Case → Type 0
 Answers c =
-    (tree treeAfter work workAfter : List ℕ) (answer : Priced) → c.cells ≤ length work → c.room ≤ length tree
+    (tree treeAfter work workAfter : List ℕ) (answer : Answer) → c.cells ≤ length work → c.room ≤ length tree
     → Finds c.text tree treeAfter work workAfter answer → Answered c tree treeAfter work workAfter answer
 
 -- ---- what finding gives of them
 
 -- the answer and the slices of a sheet
-pub record AnsweredSheet (s : Sheet) (o : Outcome Figures) (bs tree treeAfter work workAfter : List ℕ) (answer : Priced) : Type 0 where
-  pub answer_so : answer ≡ priced_of o
+pub record AnsweredSheet (s : Sheet) (o : Outcome Figures) (bs tree treeAfter work workAfter : List ℕ) (answer : Answer) : Type 0 where
+  pub answer_so : outcome_of answer ≡ priced_of o
   pub tree_so : treeAfter ≡ over bs tree
   pub work_so : workAfter ≡ cleared s work
 
 -- the first tree is the tree found
 is_found : (s : Sheet) (bs : List ℕ) (n R D t : ℕ) → every_list s (none_before s bs t) ≡ true → price_sheet s bs ≡ priced n R D t
-    → {tree treeAfter work workAfter : List ℕ} {answer : Priced} → FoundTree s tree treeAfter answer → workAfter ≡ cleared s work
+    → {tree treeAfter work workAfter : List ℕ} {answer : Answer} → FoundTree s tree treeAfter answer → workAfter ≡ cleared s work
     → AnsweredSheet s (priced n R D t) bs tree treeAfter work workAfter answer
 is_found s bs n R D t all e {tree} {treeAfter} {work} {workAfter} {answer} g c =
     go (one_first_tree s g.bytes bs g.weight g.distance R D g.first (first_computed s bs n R D t all e))
@@ -72,13 +73,15 @@ is_found s bs n R D t all e {tree} {treeAfter} {work} {workAfter} {answer} g c =
         → trees.Priced s bs R D × (n ≡ length bs) × (t ≡ total_of s R D)
         → AnsweredSheet s (priced n R D t) bs tree treeAfter work workAfter answer
     go (eb, er, ed) (p, en, et) =
+        let same : priced (length g.bytes) g.weight g.distance (total_of s g.weight g.distance) ≡ priced n R D t =
+        rw (eb, er, ed, en, et) refl in
         record {
-          answer_so = g.figures ∙ ap priced_of (rw (eb, er, ed, en, et) refl);
+          answer_so = g.figures ∙ ap priced_of same;
           tree_so = g.tree_written ∙ ap (λ (xs : List ℕ). over xs tree) eb;
           work_so = c;
         }
 
-module _ (text : List ℕ) (s : Sheet) (a : Accepts text s) {tree treeAfter work workAfter : List ℕ} {answer : Priced}
+module _ (text : List ℕ) (s : Sheet) (a : Accepts text s) {tree treeAfter work workAfter : List ℕ} {answer : Answer}
     (w : work_cells s ≤ length work) (room : tree_bytes s ≤ length tree) (f : Finds text tree treeAfter work workAfter answer) where
   ok : Good s
   ok = accepted_good text s a
@@ -99,7 +102,7 @@ module _ (text : List ℕ) (s : Sheet) (a : Accepts text s) {tree treeAfter work
   unfolding over
   none_answered all =
       let r = result_at (accepted (no_tree s)) (none_found s _ _ w room (has_none s ok (no_tree_lem s all))) in
-      record { answer_so = r.0.zeros; tree_so = r.0.tree_kept; work_so = r.1 }
+      record { answer_so = r.0.is; tree_so = r.0.tree_kept; work_so = r.1 }
 
   sheet_answered : (o : Outcome Figures) (bs : List ℕ) → judged_tree s o bs ≡ true
       → AnsweredSheet s o bs tree treeAfter work workAfter answer
@@ -143,21 +146,19 @@ pub equals_answered : Every Answers equals
 equals_answered = each equals equals_computed
 
 -- S: number 0, line 0, three nodes, R 8, D 1,008, total 1,088, and `010303` at the front of the tree slice
-pub S_found : (tree treeAfter work workAfter : List ℕ) (answer : Priced) → 464 ≤ length work → 161 ≤ length tree
+pub S_found : (tree treeAfter work workAfter : List ℕ) (answer : Answer) → 464 ≤ length work → 161 ≤ length tree
     → Finds S tree treeAfter work workAfter answer
-    → (answer ≡ record { number = 0; line = 0; nodes = 3; weight = 8; distance = 1008; total = 1088 })
+    → (outcome_of answer ≡ accepted (record { nodes = 3; weight = 8; distance = 1008; total = 1088 }))
     × (take 3 treeAfter ≡ 1 ∷ 3 ∷ 3 ∷ [])
-unfolding priced_of
 S_found tree treeAfter work workAfter answer w t f =
     let g = all_answered.0 tree treeAfter work workAfter answer w t f in
     (g.answer_is, ap (take 3) g.tree_is ∙ take-over (1 ∷ 3 ∷ 3 ∷ []) tree (omega arith))
 
 -- document 02, (iii): "`00` and `010403` both total 5,040, and `00` is given"
-pub bar_or_halves_found : (tree treeAfter work workAfter : List ℕ) (answer : Priced) → 240 ≤ length work → 81 ≤ length tree
+pub bar_or_halves_found : (tree treeAfter work workAfter : List ℕ) (answer : Answer) → 240 ≤ length work → 81 ≤ length tree
     → Finds bar_or_halves tree treeAfter work workAfter answer
-    → (answer ≡ record { number = 0; line = 0; nodes = 1; weight = 1; distance = 5040; total = 5040 })
+    → (outcome_of answer ≡ accepted (record { nodes = 1; weight = 1; distance = 5040; total = 5040 }))
     × (take 1 treeAfter ≡ 0 ∷ [])
-unfolding priced_of
 bar_or_halves_found tree treeAfter work workAfter answer w t f =
     let g = equals_answered.0 tree treeAfter work workAfter answer w t f in
     (g.answer_is, ap (take 1) g.tree_is ∙ take-over (0 ∷ []) tree (omega arith))

@@ -29,10 +29,11 @@ use Rattle.trees.specs.LeastTrees.{FirstTree}
 use Rattle.trees.proofs.Found.{own_price, first_tree, least_total_below}
 use Rattle.trees.proofs.Theorems.{valid_bytes, node_count, total_below}
 use Rattle.pricing.specs.declared.Priced.{Priced}
-use Rattle.pricing.specs.Pricing.{price_sheet, priced_of}
+use Rattle.pricing.specs.Pricing.{price_sheet, priced_of, Answer, figures_of, figures_in}
 use Rattle.pricing.specs.PricingLaws.{tree_priced}
 use Rattle.finding.specs.Finding.{has_tree, Search, no_tree, found, find_sheet, find_text, number_of, cleared, FoundTree, Gives, Finds}
 use Rattle.finding.specs.Outcomes.{work_short, tree_short, none_found, one_found, by_lengths}
+use Rattle.sheet.specs.Refusal.{outcome_of, answer_number}
 
 -- ---- whether there is a tree
 
@@ -84,35 +85,34 @@ module _ (s : Sheet) (ok : Good s) where
 -- ---- demand 3
 
 -- what number 0 tells of a sheet
-pub record TreeHandedBack (s : Sheet) (tree treeAfter work workAfter : List ℕ) (answer : Priced) : Type 0 where
+pub record TreeHandedBack (s : Sheet) (tree treeAfter work workAfter : List ℕ) (answer : Answer) : Type 0 where
   pub outcome : find_sheet s (length tree) (length work) ≡ accepted (found s)
   -- the tree handed back is the bytes at the front of the tree slice: a valid tree with the figures given, none totals less, and of those
   -- that total as much it is the first
-  pub first : FirstTree s (take answer.nodes treeAfter) answer.weight answer.distance
-  pub total : answer.total ≡ total_of s answer.weight answer.distance
+  pub first : FirstTree s (take (figures_in answer).nodes treeAfter) (figures_in answer).weight (figures_in answer).distance
+  pub total : (figures_in answer).total ≡ total_of s (figures_in answer).weight (figures_in answer).distance
   -- the answer is what pricing it gives
-  pub own : answer ≡ priced_of (price_sheet s (take answer.nodes treeAfter))
-  pub within : answer.nodes ≤ length treeAfter
+  pub own : outcome_of answer ≡ priced_of (price_sheet s (take (figures_in answer).nodes treeAfter))
+  pub within : (figures_in answer).nodes ≤ length treeAfter
   -- the bytes behind them are kept
-  pub written : treeAfter ≡ over (take answer.nodes treeAfter) tree
-  pub kept : drop answer.nodes treeAfter ≡ drop answer.nodes tree
+  pub written : treeAfter ≡ over (take (figures_in answer).nodes treeAfter) tree
+  pub kept : drop (figures_in answer).nodes treeAfter ≡ drop (figures_in answer).nodes tree
   pub clear : workAfter ≡ cleared s work
 
 -- and of a text
-pub record HandedBack (text tree treeAfter work workAfter : List ℕ) (answer : Priced) : Type 0 where
+pub record HandedBack (text tree treeAfter work workAfter : List ℕ) (answer : Answer) : Type 0 where
   pub sheet : Sheet
   pub accepts : Accepts text sheet
   pub back : TreeHandedBack sheet tree treeAfter work workAfter answer
 
-module _ (s : Sheet) (ok : Good s) {tree treeAfter work workAfter : List ℕ} {answer : Priced} where
+module _ (s : Sheet) (ok : Good s) {tree treeAfter work workAfter : List ℕ} {answer : Answer} where
   from_tree : find_sheet s (length tree) (length work) ≡ accepted (found s) → tree_bytes s ≤ length tree → FoundTree s tree treeAfter answer
       → workAfter ≡ cleared s work → TreeHandedBack s tree treeAfter work workAfter answer
-  unfolding priced_of
   from_tree o room t c =
       record {
         outcome = o;
         first = rw (front, weight, distance) t.first;
-        total = ap (λ (p : Priced). p.total) t.figures ∙ rw (weight, distance) refl;
+        total = ap (λ (p : Outcome Priced). (figures_of p).total) t.figures ∙ rw (weight, distance) refl;
         own =
             t.figures ∙ ap priced_of (sym (tree_priced s t.bytes t.weight t.distance t.first.tree.valid))
             ∙ ap (λ (bs : List ℕ). priced_of (price_sheet s bs)) (sym front);
@@ -122,23 +122,23 @@ module _ (s : Sheet) (ok : Good s) {tree treeAfter work workAfter : List ℕ} {a
         clear = c;
       }
     where
-      nodes : answer.nodes ≡ length t.bytes
-      nodes = ap (λ (p : Priced). p.nodes) t.figures
+      nodes : (figures_in answer).nodes ≡ length t.bytes
+      nodes = ap (λ (p : Outcome Priced). (figures_of p).nodes) t.figures
 
-      weight : answer.weight ≡ t.weight
-      weight = ap (λ (p : Priced). p.weight) t.figures
+      weight : (figures_in answer).weight ≡ t.weight
+      weight = ap (λ (p : Outcome Priced). (figures_of p).weight) t.figures
 
-      distance : answer.distance ≡ t.distance
-      distance = ap (λ (p : Priced). p.distance) t.figures
+      distance : (figures_in answer).distance ≡ t.distance
+      distance = ap (λ (p : Outcome Priced). (figures_of p).distance) t.figures
 
       fits : length t.bytes ≤ length tree
       fits = omega (arith, room, tree_fits s ok t.bytes t.first.tree.valid.valid)
 
-      front : take answer.nodes treeAfter ≡ t.bytes
+      front : take (figures_in answer).nodes treeAfter ≡ t.bytes
       front = rw (nodes, t.tree_written) (take-over t.bytes tree fits)
 
   -- number 0: a tree is handed back
-  pub tree_handed_back : Gives (find_sheet s (length tree) (length work)) tree treeAfter work workAfter answer → answer.number ≡ 0
+  pub tree_handed_back : Gives (find_sheet s (length tree) (length work)) tree treeAfter work workAfter answer → answer_number answer ≡ 0
       → TreeHandedBack s tree treeAfter work workAfter answer
   tree_handed_back f z = by_lengths s (length tree) (length work) Back nine ten eleven tree_given f
     where
@@ -167,14 +167,14 @@ module _ (text : List ℕ) (tree work : ℕ) where
   unfolding find_text
   sheet_found = on_sheet_lem text (λ s. find_sheet s tree work)
 
-module _ (text : List ℕ) {tree treeAfter work workAfter : List ℕ} {answer : Priced} where
+module _ (text : List ℕ) {tree treeAfter work workAfter : List ℕ} {answer : Answer} where
   module _ (f : Finds text tree treeAfter work workAfter answer) where
     -- of a text that is refused the number is reading's
-    pub refused_number : (k n : ℕ) → Refuses text k n → (answer.number ≡ k) × ReadingNumber k
+    pub refused_number : (k n : ℕ) → Refuses text k n → (answer_number answer ≡ k) × ReadingNumber k
     refused_number k n e = (f.number ∙ ap number_of (refused_found text _ _ k n e), reading_number text k n e)
 
     -- number 0: a tree is handed back
-    pub handed_back : answer.number ≡ 0 → HandedBack text tree treeAfter work workAfter answer
+    pub handed_back : answer_number answer ≡ 0 → HandedBack text tree treeAfter work workAfter answer
     handed_back z = elim (refuses_or_accepts text) [
       | inl (k, n, e) ↦ let (q, of-reading) = refused_number k n e in absurd ((reading_apart k of-reading).0 (sym q ∙ z))
       | inr (s, a) ↦
@@ -183,7 +183,7 @@ module _ (text : List ℕ) {tree treeAfter work workAfter : List ℕ} {answer : 
     ]
 
     -- a refused text: neither 0 nor 11
-    pub refused_neither : (k n : ℕ) → Refuses text k n → (answer.number ≡ 0 → ⊥) × (answer.number ≡ 11 → ⊥)
+    pub refused_neither : (k n : ℕ) → Refuses text k n → (answer_number answer ≡ 0 → ⊥) × (answer_number answer ≡ 11 → ⊥)
     refused_neither k n e =
         let (q, of-reading) = refused_number k n e in
         let apart = reading_apart k of-reading in
@@ -193,11 +193,11 @@ module _ (text : List ℕ) {tree treeAfter work workAfter : List ℕ} {answer : 
       ok : Good s
       ok = accepted_good text s a
 
-      numbered : (o : Outcome Search) → find_sheet s (length tree) (length work) ≡ o → answer.number ≡ number_of o
+      numbered : (o : Outcome Search) → find_sheet s (length tree) (length work) ≡ o → answer_number answer ≡ number_of o
       numbered o e = f.number ∙ ap number_of (sheet_found text _ _ s a ∙ e)
 
       -- a slice that is shorter than required: neither
-      pub short_neither : (length work < work_cells s) ⊎ (length tree < tree_bytes s) → (answer.number ≡ 0 → ⊥) × (answer.number ≡ 11 → ⊥)
+      pub short_neither : (length work < work_cells s) ⊎ (length tree < tree_bytes s) → (answer_number answer ≡ 0 → ⊥) × (answer_number answer ≡ 11 → ⊥)
       short_neither short = elim (dec_lt (length work) (work_cells s)) [
         | yes w ↦ let q = numbered _ (work_short s _ _ w) in (λ z. omega arith, λ z. omega arith)
         | no w ↦ elim short [
@@ -208,10 +208,10 @@ module _ (text : List ℕ) {tree treeAfter work workAfter : List ℕ} {answer : 
 
       -- slices of the required lengths
       module _ (w : work_cells s ≤ length work) (t : tree_bytes s ≤ length tree) where
-        pub some_then_zero : (bs : List ℕ) → ValidTree s bs → answer.number ≡ 0
+        pub some_then_zero : (bs : List ℕ) → ValidTree s bs → answer_number answer ≡ 0
         some_then_zero bs v = numbered _ (one_found s _ _ w t (has_tree_lem s ok bs v))
 
-        pub none_then_eleven : ((bs : List ℕ) → ValidTree s bs → ⊥) → answer.number ≡ 11
+        pub none_then_eleven : ((bs : List ℕ) → ValidTree s bs → ⊥) → answer_number answer ≡ 11
         none_then_eleven h = numbered _ (none_found s _ _ w t (has_none s ok h))
 
         by_tree : (has_tree s ≡ true) ⊎ (has_tree s ≡ false)
@@ -222,12 +222,12 @@ module _ (text : List ℕ) {tree treeAfter work workAfter : List ℕ} {answer : 
             go false e = inr e
 
         -- 0 only where some list of bytes is a valid tree
-        pub zero_then_some : answer.number ≡ 0 → (bs : List ℕ) × ValidTree s bs × Every (λ (b : ℕ). b < 256) bs
+        pub zero_then_some : answer_number answer ≡ 0 → (bs : List ℕ) × ValidTree s bs × Every (λ (b : ℕ). b < 256) bs
         zero_then_some z = elim by_tree [
           | inl e ↦ let x = some_tree s ok e in (x.0, x.3.tree.valid.valid, x.4)
           | inr e ↦ let q = numbered _ (none_found s _ _ w t e) in let f : ⊥ = omega arith in absurd f
         ]
 
         -- 11 only where no list, of any length, is one
-        pub eleven_then_none : answer.number ≡ 11 → (bs : List ℕ) → ValidTree s bs → ⊥
+        pub eleven_then_none : answer_number answer ≡ 11 → (bs : List ℕ) → ValidTree s bs → ⊥
         eleven_then_none z bs v = let q = some_then_zero bs v in omega arith

@@ -4,13 +4,13 @@ use Rattle.std.proofs.Math.Path.{refl, ap}
 use Rattle.std.proofs.Common.{sym, subst, arith}
 use Rattle.std.proofs.Math.Decide.{dec_lt}
 use borrow.Author.Tests.{lt-ltb, le-ltb}
-use Rattle.slices.specs.Over.{over}
 use Rattle.sheet.specs.Sheet.{Sheet}
-use Rattle.sheet.specs.Outcome.{Outcome, refused, accepted}
+use Rattle.sheet.specs.Outcome.{Outcome, refused, accepted, number_in, line_in}
 use Rattle.sizes.specs.Sizes.{tree_bytes, work_cells}
 use Rattle.pricing.specs.declared.Priced.{Priced}
-use Rattle.pricing.specs.Pricing.{priced_of}
+use Rattle.pricing.specs.Pricing.{priced_of, Answer}
 use Rattle.finding.specs.Finding.{has_tree, Search, no_tree, found, find_sheet, Result, Gives}
+use Rattle.sheet.specs.Refusal.{answer_number, answer_line}
 
 -- ---- finding on a sheet, by the lengths of the slices
 
@@ -53,18 +53,11 @@ module _ (s : Sheet) (tree work : ℕ) where
 
 -- ---- the number and the line of a result are the outcome's
 
-abbrev number : Priced → ℕ
-number r = r.number
-
-abbrev line : Priced → ℕ
-line r = r.line
-
-module _ {tree treeAfter work workAfter : List ℕ} {r : Priced} where
+module _ {tree treeAfter work workAfter : List ℕ} {r : Answer} where
   given : (o : Outcome Search) → Result o tree treeAfter work workAfter r → Gives o tree treeAfter work workAfter r
-  unfolding priced_of
-  given (refused k n) x = let e = x.0.zeros in record { number = ap number e; line = ap line e; result = x }
-  given (accepted (no_tree s)) x = let e = x.0.zeros in record { number = ap number e; line = ap line e; result = x }
-  given (accepted (found s)) x = let e = x.0.figures in record { number = ap number e; line = ap line e; result = x }
+  given (refused k n) x = let e = x.0.is in record { number = ap number_in e; line = ap line_in e; result = x }
+  given (accepted (no_tree s)) x = let e = x.0.is in record { number = ap number_in e; line = ap line_in e; result = x }
+  given (accepted (found s)) x = let e = x.0.figures in record { number = ap number_in e; line = ap line_in e; result = x }
 
   pub gives : (o o' : Outcome Search) → o ≡ o' → Result o' tree treeAfter work workAfter r → Gives o tree treeAfter work workAfter r
   gives o o' e x = subst (λ (o : Outcome Search). Gives o tree treeAfter work workAfter r) (sym e) (given o' x)

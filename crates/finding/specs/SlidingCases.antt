@@ -13,11 +13,13 @@ use Rattle.derivations.specs.Derivation.{onto}
 use Rattle.trees.specs.ValidTrees as trees
 use Rattle.trees.specs.ValidTrees.{whose, distance_to}
 use Rattle.pricing.specs.declared.Priced.{Priced}
-use Rattle.pricing.specs.Pricing.{price_sheet, priced_of}
+use Rattle.pricing.specs.Pricing.{price_sheet, priced_of, Answer, figures_of, figures_in}
 use Rattle.pricing.specs.PricingLaws.{price_own}
 use Rattle.finding.specs.Finding.{Finds}
 use Rattle.finding.specs.Cases.{bar_or_tie, slid_cases, slid_computed}
 use Rattle.finding.specs.FindingCases.{Answers, each}
+use Rattle.sheet.specs.Outcome.{Outcome, number_in}
+use Rattle.sheet.specs.Refusal.{answer_number}
 
 -- `near_middle` at four multipliers, and `bar_or_tie` at 0 and 1
 pub slid_answered : Every Answers slid_cases
@@ -49,16 +51,15 @@ unfolding price_sheet onto whose distance_to Option-elim
 tie_lighter a = (price_own (with_multiplier a sheet_tie) (1 ∷ []) 1 1 0 (a * 1 + 0) refl).0
 
 -- With a = 0 the tree found may be dominated: on this sheet it weighs 3 at distance 0, and a valid tree weighs 1 at the same distance.
-pub dominated_at_zero : (tree tree' work work' : List ℕ) (r : Priced) → 240 ≤ length work → 81 ≤ length tree
+pub dominated_at_zero : (tree tree' work work' : List ℕ) (r : Answer) → 240 ≤ length work → 81 ≤ length tree
     → Finds (slid 0 bar_or_tie) tree tree' work work' r
-    → (r.number ≡ 0) × (r.weight ≡ 3) × (r.distance ≡ 0) × Accepts (slid 0 bar_or_tie) (with_multiplier 0 sheet_tie)
+    → (answer_number r ≡ 0) × ((figures_in r).weight ≡ 3) × ((figures_in r).distance ≡ 0) × Accepts (slid 0 bar_or_tie) (with_multiplier 0 sheet_tie)
     × trees.Priced (with_multiplier 0 sheet_tie) (1 ∷ []) 1 0
-unfolding priced_of
 dominated_at_zero tree tree' work work' r w t f =
     let g = (slid_answered.1.1.1.1.0 tree tree' work work' r w t f).answer_is in (
-      ap (λ (x : Priced). x.number) g,
-      ap (λ (x : Priced). x.weight) g,
-      ap (λ (x : Priced). x.distance) g,
+      ap number_in g,
+      ap (λ (x : Outcome Priced). (figures_of x).weight) g,
+      ap (λ (x : Outcome Priced). (figures_of x).distance) g,
       tie_slid 0 (omega arith),
       tie_lighter 0,
     )

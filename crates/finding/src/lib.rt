@@ -1,8 +1,9 @@
 // Finding the first least tree of the sheet that a text means.
 #![tactic(auto)]
 
-ghost use Rattle.std.specs.Prelude.{◌≡◌, ℕ, ◌<◌, length};
+ghost use Rattle.std.specs.Prelude.{◌≡◌, ℕ, length};
 ghost use Rattle.sheet.specs.Sheet.{Sheet};
+ghost use Rattle.sheet.specs.Outcome.{accepted};
 ghost use Rattle.sheet.specs.Accepted.{SheetHeld};
 ghost use Rattle.sizes.specs.Sizes.{lengths_of};
 ghost use Rattle.sizes.specs.Held.{length_table};
@@ -10,44 +11,22 @@ ghost use Rattle.trees.specs.ValidTrees.{rule_weight, total_of};
 ghost use Rattle.pricing.specs.Pricing.{priced, priced_of};
 ghost use Rattle.search.specs.Clauses.{SearchPre};
 ghost use Rattle.finding.specs.Finding.{find_sheet, Gives, Finds};
-ghost use Rattle.finding.specs.Clauses.{weight_in, WeightPre, FiguresPre};
+ghost use Rattle.finding.specs.Clauses.{WeightPre, FiguresPre};
 
 use expansions::{PackedRules, pack_rules, rule_at};
-use pricing::{Priced, refused};
+use pricing::Priced;
 use search::{Found, least_tree};
-use sheet::{GrammarTable, PlayingTable, Rule};
+use sheet::{GrammarTable, PlayingTable, Refusal, Refused};
 use sizes::LengthTable;
 
-// The weight of a rule.
-fn weight_of(rule: Rule) -> u64
-    ensures { (result < 65536) × (result ≡ weight_in rule) }
-{
-    match rule {
-        Rule::Division {
-            head: _,
-            weight,
-            arity: _,
-        } => weight as u64,
-        Rule::Leaf {
-            head: _,
-            weight,
-            n: _,
-        } => weight as u64,
-    }
-}
-
 // R of a list: the sum of the weights of its rules.
-fn weight_sum<'a>(rules: &'a PackedRules, list: &'a [u8]) -> u64
+fn weight_sum(rules: &PackedRules, list: &[u8]) -> u64
     requires { (s : Sheet) × WeightPre s rules.now list.now }
     ensures { (s : Sheet) → WeightPre s rules.now list.now → result ≡ rule_weight s list.now }
 {
     let mut sum: u64 = 0;
-    let mut i: usize = 0;
-    while i < list.len() {
-        let r = list[i] as usize;
-        let rule = rule_at(rules, r);
-        sum += weight_of(rule);
-        i += 1;
+    for &r in list {
+        sum += u64::from(rule_at(rules, r as usize).weight());
     }
     sum
 }
@@ -56,13 +35,11 @@ fn weight_sum<'a>(rules: &'a PackedRules, list: &'a [u8]) -> u64
 fn figures(grammar: GrammarTable, list: &[u8], total: u64) -> Priced
     requires { (s : Sheet) × (R : ℕ) × (D : ℕ) × FiguresPre s grammar list.now R D total }
     ensures { (s : Sheet) (R D : ℕ) → FiguresPre s grammar list.now R D total
-        → result ≡ priced_of (priced (length list.now) R D (total_of s R D)) }
+        → accepted result ≡ priced_of (priced (length list.now) R D (total_of s R D)) }
 {
     let rules = pack_rules(grammar);
     let weight = weight_sum(&rules, list);
     Priced {
-        number: 0,
-        line: 0,
         nodes: list.len(),
         weight,
         distance: total - (grammar.multiplier as u64) * weight,
@@ -77,17 +54,16 @@ fn find_least(
     reached: LengthTable,
     tree: &mut [u8],
     work: &mut [u64],
-) -> Priced
+) -> Result<Priced, Refused>
     requires { (s : Sheet) × SearchPre s grammar playing tree.old work.old × (reached ≡ length_table (lengths_of s.grammar.rules)) }
     ensures { (s : Sheet) → SearchPre s grammar playing tree.old work.old
         → reached ≡ length_table (lengths_of s.grammar.rules)
         → Gives (find_sheet s (length tree.old) (length work.old)) tree.old tree.new
         work.old work.new result }
 {
-    let found = least_tree(grammar, playing, reached, tree, work);
-    match found {
-        Found::NoTree => refused(11, 0),
-        Found::Tree { nodes, total } => figures(grammar, &tree[..nodes], total),
+    match least_tree(grammar, playing, reached, tree, work) {
+        None => Err(Refusal::NoTree.at(0)),
+        Some(Found { nodes, total }) => Ok(figures(grammar, &tree[..nodes], total)),
     }
 }
 
@@ -98,7 +74,7 @@ pub fn find_sheet(
     playing: PlayingTable,
     tree: &mut [u8],
     work: &mut [u64],
-) -> Priced
+) -> Result<Priced, Refused>
     requires { (s : Sheet) × SheetHeld s grammar playing }
     ensures { (s : Sheet) → SheetHeld s grammar playing
         → Gives (find_sheet s (length tree.old) (length work.old)) tree.old tree.new
@@ -106,25 +82,19 @@ pub fn find_sheet(
 {
     let reached = sizes::lengths(grammar);
     if work.len() < sizes::work_cells_by(grammar, playing, reached.count) {
-        return refused(9, 0);
+        return Err(Refusal::WorkShort.at(0));
     }
     if tree.len() < sizes::tree_bytes(playing) {
-        return refused(10, 0);
+        return Err(Refusal::TreeShort.at(0));
     }
     find_least(grammar, playing, reached, tree, work)
 }
 
 // Finds the first least tree of the sheet that a text means: its bytes go to the front of the tree slice; its node count, R, D and total
 // are given. Reading's refusal comes first. The required work cells are 0 after a tree and after 11; every other cell and byte is kept.
-pub fn find(text: &[u8], tree: &mut [u8], work: &mut [u64]) -> Priced
+pub fn find(text: &[u8], tree: &mut [u8], work: &mut [u64]) -> Result<Priced, Refused>
     ensures { Finds text.now tree.old tree.new work.old work.new result }
 {
-    let r = reading::read(text);
-    let number = r.number;
-    if number != 0 {
-        return refused(number, r.line);
-    }
-    let grammar = r.grammar;
-    let playing = r.playing;
-    find_sheet(grammar, playing, tree, work)
+    let r = reading::read(text)?;
+    find_sheet(r.grammar, r.playing, tree, work)
 }

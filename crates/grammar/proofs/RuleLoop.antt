@@ -10,9 +10,8 @@ use borrow.Author.Tests.{eq-eqb, ne_eqb, lt-ltb, ltb-true}
 use Rattle.hextext.specs.declared.line.Line.{Line}
 use Rattle.hextext.specs.Text.{line_bytes}
 use Rattle.hextext.specs.Packed.{line_read}
-use Rattle.sheet.specs.declared.table.RuleCell.{RuleCell}
+use Rattle.sheet.specs.declared.table.Rule.{Rule}
 use Rattle.sheet.specs.declared.table.GrammarTable.{GrammarTable}
-use Rattle.grammar.specs.declared.Rules.{Rules}
 use Rattle.sheet.specs.Sheet.{Grammar}
 use Rattle.sheet.specs.Reading.{demand, byte, bytes_from, rule_refusal, rule_of, with_rule, in_rules, rules_refusal, refusal, after}
 use Rattle.sheet.specs.Rest.{read_rest, stopped, rest_end, rest_bad, rest_stop, rest_held, rest_on}
@@ -22,7 +21,7 @@ use Rattle.sheet.specs.SoFar.{GoodProgress}
 use Rattle.sheet.specs.Laws.{demand_zero, end_in_rules}
 use Rattle.sheet.proofs.GoodBars.{line_small}
 use Rattle.sheet.proofs.GoodLines.{good_after}
-use Rattle.grammar.specs.Clauses.{cell_of, arity_of, RulesDone, RulesRead}
+use Rattle.grammar.specs.Clauses.{cell_of, arity_of, RulesDone}
 use Rattle.grammar.proofs.Tables.{cell_is, parts_are, room, rule_stored}
 
 -- a line that adds a rule has room, and is short, by the code's own numbers
@@ -96,8 +95,7 @@ module _ {t : List ℕ} {at n : ℕ} {h : Grammar} {table : GrammarTable} {at' n
             stop k (number ∙ three table.count refused ∙ early table.count count_is refused) f
 
         -- and some do
-        pub rules_done : k ≡ 0 → n' ≤ at' + 1 → 0 < n'
-            → RulesDone t at n h (record { number = k; line = n'; at = at'; end = l; grammar = table })
+        pub rules_done : k ≡ 0 → n' ≤ at' + 1 → 0 < n' → RulesDone t at n h (record { line = n'; at = at'; end = l; grammar = table })
         rules_done z line pos =
             record {
               grammar = g;
@@ -140,7 +138,7 @@ module _ {t : List ℕ} {at n : ℕ} {h : Grammar} {table : GrammarTable} {at' n
           unfolding after
           next = simp (ne_eqb (byte b 0) 0x45 not_end)
 
-          pub rules_more : (cell : RuleCell) → cell ≡ cell_of b → (children : List ℕ) (m : ℕ) → m ≡ arity_of b
+          pub rules_more : (cell : Rule) → cell ≡ cell_of b → (children : List ℕ) (m : ℕ) → m ≡ arity_of b
               → ((rs : List (List ℕ)) → length rs ≡ table.count → table.children ≡ child_cells rs
               → children ≡ child_cells (rs ++ (bytes_from m 5 b ∷ [])))
               → (table' : GrammarTable)
@@ -169,8 +167,3 @@ module _ {t : List ℕ} {at n : ℕ} {h : Grammar} {table : GrammarTable} {at' n
                     so.rest ∙ rest_on t at' inside l is (in_rules g) n' filled met
                     ∙ ap (λ x. read_rest x (n' + 1) (drop l.next t)) next;
               }
-
--- what is returned where a line is bad or refused, or none is left
-pub rules_refused : {t : List ℕ} {at n : ℕ} {h : Grammar} (r : Rules) → (r.number ≡ 0 → ⊥) → r.line ≤ r.at + 1
-    → read_rest (in_rules h) n (drop at t) ≡ stopped r.number r.line (drop r.at t) → RulesRead t at n h r
-rules_refused r f place e = record { stop = λ _. e; place = λ _. place; done = λ z. absurd (f z) }

@@ -7,7 +7,7 @@ use native.Mathlib.Omega.{arith}
 use lib.ListN.{length, set, length-append}
 use lib.Dec.{eqb}
 use Rattle.slices.specs.Pad.{pad_map_more}
-use Rattle.sheet.specs.declared.table.RuleCell.{RuleCell}
+use Rattle.sheet.specs.declared.table.Rule as held
 use Rattle.sheet.specs.declared.table.Rule.TheVariants.{Division, Leaf}
 use Rattle.sheet.specs.declared.table.GrammarTable.{GrammarTable}
 use Rattle.sheet.specs.Sheet.{Rule, Grammar}
@@ -22,9 +22,9 @@ module _ (l : List ℕ) where
   cell_is = go (eqb (byte l 0) 0x44)
     where
       go : (t : Bool)
-          → cond t (record { rule = Division (byte l 1) (two l 2) (byte l 4) }) (record { rule = Leaf (byte l 1) (two l 2) (byte l 4) })
+          → cond t (Division (byte l 1) (two l 2) (byte l 4)) (Leaf (byte l 1) (two l 2) (byte l 4))
           ≡ rule_cell (cond t (division_of l) (leaf_of l))
-      go true = ap (λ (k : ℕ). record { rule = Division (byte l 1) (two l 2) k }) (sym (length-bytes l (byte l 4) 5))
+      go true = ap (Division (byte l 1) (two l 2)) (sym (length-bytes l (byte l 4) 5))
       go false = refl
 
   pub parts_are : bytes_from (arity_of l) 5 l ≡ parts_of (rule_of l)
@@ -47,7 +47,7 @@ module _ (l : List ℕ) where
       go false false z = let f : ⊥ = omega arith in absurd f
 
 -- a table with one rule more
-pub rule_stored : (g : Grammar) (t : GrammarTable) (r : Rule) (cell : RuleCell) (children : List ℕ)
+pub rule_stored : (g : Grammar) (t : GrammarTable) (r : Rule) (cell : held.Rule) (children : List ℕ)
     → t ≡ grammar_table g → t.count < 64 → cell ≡ rule_cell r
     → children ≡ child_cells (map parts_of g.rules ++ (parts_of r ∷ []))
     → record {

@@ -1,21 +1,19 @@
 -- What the steps of reading a grammar promise.
-use Rattle.std.specs.Prelude.{ℕ, ◌+◌, ◌≤◌, ◌<◌, ◌≡◌, cond, List, [], ◌∷◌, ◌++◌, length, drop, eqb}
+use Rattle.std.specs.Prelude.{ℕ, ◌+◌, ◌≤◌, ◌<◌, ◌≡◌, cond, List, [], ◌∷◌, ◌++◌, length, drop, eqb, Result, Ok, Err}
 use Rattle.hextext.specs.Packed.{line_read}
+use Rattle.sheet.specs.declared.table.Rule.{Rule}
 use Rattle.sheet.specs.declared.table.Rule.TheVariants.{Division, Leaf}
-use Rattle.sheet.specs.declared.table.RuleCell.{RuleCell}
 use Rattle.sheet.specs.Sheet.{Grammar}
 use Rattle.sheet.specs.Reading.{byte, two, in_rules}
-use Rattle.sheet.specs.Rest.{read_rest, stopped}
+use Rattle.sheet.specs.declared.refusal.Stop.{Stop}
+use Rattle.sheet.specs.Rest.{read_rest, Stopped}
 use Rattle.sheet.specs.Held.{grammar_table, child_cells}
 use Rattle.sheet.specs.Good.{GoodRules}
 use Rattle.grammar.specs.declared.Rules.{Rules}
 
 -- the rule of a `44` or `4C` line without the nonterminals of its parts, and how many these are
-unfoldable pub cell_of : List ℕ → RuleCell
-cell_of l =
-    cond (eqb (byte l 0) 0x44)
-    (record { rule = Division (byte l 1) (two l 2) (byte l 4) })
-    (record { rule = Leaf (byte l 1) (two l 2) (byte l 4) })
+unfoldable pub cell_of : List ℕ → Rule
+cell_of l = cond (eqb (byte l 0) 0x44) (Division (byte l 1) (two l 2) (byte l 4)) (Leaf (byte l 1) (two l 2) (byte l 4))
 
 unfoldable pub arity_of : List ℕ → ℕ
 arity_of l = cond (eqb (byte l 0) 0x44) (byte l 4) 0
@@ -40,7 +38,6 @@ pub record RulesDone (t : List ℕ) (at n : ℕ) (h : Grammar) (r : Rules) : Typ
   pub rest : read_rest (in_rules h) n (drop at t) ≡ read_rest (in_rules grammar) r.line (drop r.at t)
 
 -- reading the rules from line n, at place `at`, on
-pub record RulesRead (t : List ℕ) (at n : ℕ) (h : Grammar) (r : Rules) : Type 0 where
-  pub stop : (r.number ≡ 0 → ⊥) → read_rest (in_rules h) n (drop at t) ≡ stopped r.number r.line (drop r.at t)
-  pub place : (r.number ≡ 0 → ⊥) → r.line ≤ r.at + 1
-  pub done : r.number ≡ 0 → RulesDone t at n h r
+abbrev pub RulesRead : (t : List ℕ) (at n : ℕ) → Grammar → Result Rules Stop → Type 0
+RulesRead t at n h (Ok r) = RulesDone t at n h r
+RulesRead t at n h (Err e) = Stopped t (read_rest (in_rules h) n (drop at t)) e

@@ -1,30 +1,31 @@
-// The refusals of the lines of a grammar.
+// The refusals of the lines of a grammar. Each test is one demand of the documents, in their order, so a range is two tests and no `contains`.
 ghost use Rattle.std.specs.Prelude.{◌≡◌, List, ℕ, ◌≤◌, ltb};
 ghost use Rattle.sheet.specs.Reading.{demand, head_refusal, division_refusal, leaf_refusal, rule_refusal, all_below, bytes_from};
+ghost use Rattle.sheet.specs.Refusal.{test_number};
 ghost use Rattle.sheet.specs.Held.{LineHeld};
 
 use hextext::Line;
-use sheet::{KIND_MOST, PARTS_MOST, RULES_MOST, byte_at};
+use sheet::{KIND_MOST, Kind, PARTS_MOST, RULES_MOST, Refusal, byte_at};
 
-// The refusal of a `47` line; 0: none.
-pub fn head_refusal(l: Line) -> u8
-    ensures { (b : List ℕ) → LineHeld l b → result ≡ head_refusal b }
+// Whether a `47` line is refused.
+pub fn check_head(l: Line) -> Result<(), Refusal>
+    ensures { (b : List ℕ) → LineHeld l b → test_number result ≡ head_refusal b }
 {
     if l.count != 5 {
-        return 4;
+        return Err(Refusal::WrongByteCount);
     }
     let nonterminals = byte_at(l, 1);
     let start = byte_at(l, 2);
     if nonterminals < 1 {
-        return 5;
+        return Err(Refusal::FieldOutOfRange);
     }
     if 16 < nonterminals {
-        return 5;
+        return Err(Refusal::FieldOutOfRange);
     }
     if nonterminals <= start {
-        return 5;
+        return Err(Refusal::FieldOutOfRange);
     }
-    0
+    Ok(())
 }
 
 // Whether k nonterminals of a line, from byte 5 on, are all below q.
@@ -32,85 +33,84 @@ fn all_below(q: u8, k: usize, l: Line) -> bool
     requires { (k ≤ 8) × (l.count ≤ 13) }
     ensures { (b : List ℕ) → LineHeld l b → result ≡ all_below q (bytes_from k 5 b) }
 {
-    let mut j: usize = 0;
-    while j < k {
-        let x = byte_at(l, j + 5);
-        j += 1;
-        if q <= x {
+    for j in 0..k {
+        if q <= byte_at(l, j + 5) {
             return false;
         }
     }
     true
 }
 
-// The refusal of a `44` line in a grammar of q nonterminals, after `count` rules; 0: none.
-fn division_refusal(q: u8, count: usize, l: Line) -> u8
-    ensures { (b : List ℕ) → LineHeld l b → result ≡ division_refusal q count b }
+// Whether a `44` line is refused in a grammar of q nonterminals, after `count` rules.
+fn check_division(q: u8, count: usize, l: Line) -> Result<(), Refusal>
+    ensures { (b : List ℕ) → LineHeld l b → test_number result ≡ division_refusal q count b }
 {
     if l.count < 5 {
-        return 4;
+        return Err(Refusal::WrongByteCount);
     }
     let head = byte_at(l, 1);
     let k = byte_at(l, 4) as usize;
     if k < 2 {
-        return 5;
+        return Err(Refusal::FieldOutOfRange);
     }
     if PARTS_MOST < k {
-        return 5;
+        return Err(Refusal::FieldOutOfRange);
     }
     if l.count != 5 + k {
-        return 4;
+        return Err(Refusal::WrongByteCount);
     }
     if q <= head {
-        return 5;
+        return Err(Refusal::FieldOutOfRange);
     }
-    if all_below(q, k, l) {
-        if RULES_MOST <= count {
-            return 8;
-        }
-        return 0;
+    if !all_below(q, k, l) {
+        return Err(Refusal::FieldOutOfRange);
     }
-    5
+    if RULES_MOST <= count {
+        return Err(Refusal::TooMany);
+    }
+    Ok(())
 }
 
-// The refusal of a `4C` line in a grammar of q nonterminals, after `count` rules; 0: none.
-fn leaf_refusal(q: u8, count: usize, l: Line) -> u8
-    ensures { (b : List ℕ) → LineHeld l b → result ≡ leaf_refusal q count b }
+// Whether a `4C` line is refused in a grammar of q nonterminals, after `count` rules.
+fn check_leaf(q: u8, count: usize, l: Line) -> Result<(), Refusal>
+    ensures { (b : List ℕ) → LineHeld l b → test_number result ≡ leaf_refusal q count b }
 {
     if l.count != 5 {
-        return 4;
+        return Err(Refusal::WrongByteCount);
     }
     let head = byte_at(l, 1);
     let n = byte_at(l, 4);
     if q <= head {
-        return 5;
+        return Err(Refusal::FieldOutOfRange);
     }
     if KIND_MOST < n {
-        return 5;
+        return Err(Refusal::FieldOutOfRange);
     }
     if RULES_MOST <= count {
-        return 8;
+        return Err(Refusal::TooMany);
     }
-    0
+    Ok(())
 }
 
-// The refusal of a line that is to add a rule, after `count` rules; 0: none.
-pub fn rule_refusal(q: u8, count: usize, l: Line) -> u8
-    ensures { (b : List ℕ) → LineHeld l b → result ≡ rule_refusal q count b }
+// Whether a line that is to add a rule is refused, after `count` rules.
+pub fn check_rule(q: u8, count: usize, l: Line) -> Result<(), Refusal>
+    ensures { (b : List ℕ) → LineHeld l b → test_number result ≡ rule_refusal q count b }
 {
-    let kind = l.kind;
-    if kind == 0x44 {
-        return division_refusal(q, count, l);
+    if l.kind == Kind::Division as u8 {
+        return check_division(q, count, l);
     }
-    if kind == 0x4C {
-        return leaf_refusal(q, count, l);
+    if l.kind == Kind::Leaf as u8 {
+        return check_leaf(q, count, l);
     }
-    3
+    Err(Refusal::KindOutOfOrder)
 }
 
-// The refusal of a `45` line by the number of rules before it; 0: none. Its own demands are the playing's.
-pub fn end_refusal(count: usize) -> u8
-    ensures { result ≡ demand (ltb 0 count) 3 0 }
+// Whether a `45` line is refused by the number of rules before it. Its own demands are the playing's.
+pub fn check_end(count: usize) -> Result<(), Refusal>
+    ensures { test_number result ≡ demand (ltb 0 count) 3 0 }
 {
-    if count < 1 { 3 } else { 0 }
+    if count < 1 {
+        return Err(Refusal::KindOutOfOrder);
+    }
+    Ok(())
 }

@@ -1,7 +1,7 @@
 -- Laws of texts that are read: the values of digits, the line that starts at a place of a text, its first bad line. Assumes nothing.
 use Rattle.std.specs.Prelude.{ℕ, zero, suc, ◌+◌, ◌-◌, ◌%◌, ◌<◌, ◌≤◌, ◌≡◌, Bool, true, false, cond, length, drop, get_or, eqb, leb}
 use Rattle.std.proofs.Math.Path.{refl, ap}
-use Rattle.std.proofs.Common.{sym, subst, ◌∙◌, mod-lt, arith, length-drop, drop_of_length-le, drop-drop, eq-eqb, ne_eqb, le-leb}
+use Rattle.std.proofs.Common.{sym, subst, mod-lt, arith, length-drop, drop-drop, eq-eqb, ne_eqb, le-leb}
 use mathlib.Core.List.{List, [], ◌∷◌}
 use Rattle.std.proofs.Math.Decide.{ℕ_discrete}
 use Rattle.std.proofs.lemmas.Bool.{lt-leb}

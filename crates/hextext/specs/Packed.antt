@@ -1,5 +1,5 @@
 -- A line read in one pass: whether it is well formed, its count, and its bytes packed into numbers.
-use Rattle.std.specs.Prelude.{ℕ, ◌+◌, ◌*◌, ◌%◌, ◌<◌, Bool, true, false, cond, ◌&&◌, List, [], ◌∷◌, ◌≡◌, length, drop, take, get_or, eqb, ltb}
+use Rattle.std.specs.Prelude.{ℕ, ◌+◌, ◌*◌, ◌%◌, ◌<◌, Bool, true, false, cond, ◌&&◌, Option, Some, None, List, [], ◌∷◌, ◌≡◌, length, drop, take, get_or, eqb, ltb}
 use Rattle.hextext.specs.declared.line.Line.{Line}
 use Rattle.hextext.specs.Text.{is_digit, value, line_bytes, line_size}
 
@@ -82,3 +82,12 @@ closes (b ∷ t) = eqb b 10
 unfoldable pub closed_line : (bs : List ℕ) (i : ℕ) (t : List ℕ) → Line
 unfolding packed
 closed_line bs i t = or_none (has_byte bs && closes t) (packed bs (i + 1))
+
+-- a line as it is answered: none where it has no byte, as `no_line` has none, and no line that is well formed
+unfoldable pub line_if : Line → Option Line
+line_if l = cond (eqb l.count 0) None (Some l)
+
+-- the number that is answered; 0: none
+abbrev pub number_in : Option ℕ → ℕ
+number_in None = 0
+number_in (Some n) = n

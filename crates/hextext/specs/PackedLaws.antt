@@ -1,5 +1,5 @@
 -- Laws of a line packed into numbers: one byte more, and each byte of the first eight and of the last eight. Assumes nothing.
-use Rattle.std.specs.Prelude.{ℕ, zero, suc, ◌+◌, ◌*◌, ◌-◌, ◌/◌, ◌%◌, ◌^◌, ◌<◌, ◌≤◌, ◌≡◌, Bool, cond, List, [], ◌∷◌, ◌++◌, take, drop, get_or, eqb, ltb}
+use Rattle.std.specs.Prelude.{ℕ, zero, suc, ◌+◌, ◌*◌, ◌-◌, ◌/◌, ◌%◌, ◌^◌, ◌<◌, ◌≤◌, ◌≡◌, Bool, cond, Some, None, List, [], ◌∷◌, ◌++◌, take, drop, get_or, eqb, ltb}
 use Rattle.std.proofs.Math.Path.{refl, sym, ap}
 use Rattle.std.proofs.Common.{◌∙◌, arith, length-append, drop_of_length-le, length-take-le, get_or-take, take_at, shr-shr, eq-eqb, ne_eqb, lt-ltb, le-ltb}
 use Rattle.std.proofs.Math.Bool.{true, false}
@@ -10,7 +10,7 @@ use Rattle.std.proofs.lemmas.List.{take-append-le}
 use Rattle.slices.specs.Every.{Every}
 use Rattle.hextext.specs.declared.line.Line.{Line}
 use Rattle.hextext.specs.Text.{line_bytes, line_size}
-use Rattle.hextext.specs.Packed.{formed_from, formed, with_byte, tail_from, tail_of, front_of, packed, no_line, or_none, line_read}
+use Rattle.hextext.specs.Packed.{formed_from, formed, with_byte, tail_from, tail_of, front_of, packed, no_line, or_none, line_read, line_if}
 use Rattle.hextext.specs.Laws.{bytes_pair}
 use Rattle.hextext.specs.OnePass.{form_close}
 
@@ -226,3 +226,38 @@ line_next t i l is filled =
 pub line_none : (t : List ℕ) (i : ℕ) → length t ≤ i → line_read t i ≡ no_line
 unfolding line_read formed_from
 line_none t i h = rw (drop_of_length-le t {i = i} h) refl
+
+-- ---- a line as it is answered
+
+some_not_none : {l : Line} → Some l ≡ None → ⊥
+some_not_none e = let f : false ≡ true = cc in false≢true f
+
+-- some line is well formed, and the one that is read
+pub line_if_some : {l m : Line} → Some l ≡ line_if m → (l ≡ m) × (l.count ≡ 0 → ⊥)
+unfolding line_if
+line_if_some {l} {m} e = go (ℕ_discrete m.count 0)
+  where
+    go : Dec (m.count ≡ 0) → (l ≡ m) × (l.count ≡ 0 → ⊥)
+    go (yes z) = absurd (some_not_none (e ∙ ap (λ t. cond t None (Some m)) (eq-eqb m.count 0 z)))
+    go (no f) =
+        let s : Some l ≡ Some m = e ∙ ap (λ t. cond t None (Some m)) (ne_eqb m.count 0 f) in
+        let is : l ≡ m = cc in
+        (is, λ z. f (ap (λ (x : Line). x.count) (sym is) ∙ z))
+
+-- none has no byte
+pub line_if_none : (m : Line) → None ≡ line_if m → m.count ≡ 0
+unfolding line_if
+line_if_none m e = go (ℕ_discrete m.count 0)
+  where
+    go : Dec (m.count ≡ 0) → m.count ≡ 0
+    go (yes z) = z
+    go (no f) = absurd (some_not_none (sym (e ∙ ap (λ t. cond t None (Some m)) (ne_eqb m.count 0 f))))
+
+-- and back
+pub line_if_is : {m : Line} → (m.count ≡ 0 → ⊥) → Some m ≡ line_if m
+unfolding line_if
+line_if_is {m} f = ap (λ t. cond t None (Some m)) (sym (ne_eqb m.count 0 f))
+
+pub line_if_not : (m : Line) → m.count ≡ 0 → None ≡ line_if m
+unfolding line_if
+line_if_not m z = ap (λ t. cond t None (Some m)) (sym (eq-eqb m.count 0 z))

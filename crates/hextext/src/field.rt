@@ -9,10 +9,8 @@ pub fn put_field(line: &mut [u8], at: usize, count: usize, x: u64)
     ensures { line.new ≡ over_from at (big_endian count x) line.old }
 {
     let mut rest = x;
-    let mut left = count;
-    while 0 < left {
-        left -= 1;
-        line[at + left] = (rest % 256) as u8;
-        rest = rest / 256;
+    for i in (0..count).rev() {
+        line[at + i] = (rest % 256) as u8;
+        rest /= 256;
     }
 }

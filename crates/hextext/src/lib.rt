@@ -6,12 +6,14 @@ ghost use Rattle.std.specs.Prelude.{◌≡◌, ◌<◌};
 ghost use Rattle.hextext.specs.Text.{value, pair, NextLine};
 ghost use Rattle.hextext.specs.Written.{digit_of, LineWritten};
 
+mod digits;
 mod field;
 mod line;
 mod seven;
 
+pub use digits::Digits;
 pub use field::put_field;
-pub use line::{Digits, Line, NUMBER_BYTES, bad_from, digit_table, line_at, no_line};
+pub use line::{Line, NUMBER_BYTES, bad_from, line_at};
 pub use seven::seven_at;
 
 // The byte that closes a line.
@@ -46,6 +48,7 @@ pub fn next_line(text: &[u8], at: usize, line: &mut [u8]) -> Next
 {
     let mut count: usize = 0;
     let mut i = at;
+    // No `for`: a round takes one digit or two, and the place behind them is given back.
     while i < text.len() {
         let high = text[i];
         i += 1;
@@ -90,10 +93,7 @@ pub fn write_line(bytes: &[u8], out: &mut [u8], at: usize) -> usize
         return at;
     }
     let mut k = at;
-    let mut i: usize = 0;
-    while i < bytes.len() {
-        let b = bytes[i];
-        i += 1;
+    for &b in bytes {
         out[k] = digit_of(b / 16);
         out[k + 1] = digit_of(b % 16);
         k += 2;

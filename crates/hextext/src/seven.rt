@@ -1,9 +1,10 @@
 // A line of seven bytes, as an onset's is, read without a loop. Most lines of a sheet are such.
 ghost use Rattle.std.specs.Prelude.{◌≡◌, ◌+◌, ◌*◌, ◌<◌, ◌≤◌, length};
-ghost use Rattle.hextext.specs.Packed.{DigitTable, pair_at, line_read};
+ghost use Rattle.hextext.specs.Packed.{pair_at, line_read, line_if};
 
 use crate::CLOSE;
-use crate::line::{BYTE_VALUES, Digits, Line, NO_DIGIT, line_at, pair_in};
+use crate::digits::{BYTE_VALUES, Digits, NO_DIGIT};
+use crate::line::{Line, line_at};
 
 // How many bytes it has, and how many digits stand before the 0A that closes it.
 const BYTES: usize = 7;
@@ -23,18 +24,18 @@ const FOUR_DIGITS: u64 = 65536;
 // The two bytes that the four digits from place i on spell, as one number; NO_DIGIT or more where one of the four is no digit, and for
 // FFFF.
 fn four_at(digits: &Digits, text: &[u8], i: usize) -> u64
-    requires { DigitTable digits.now × (i + 3 < length text.now) }
+    requires { i + 3 < length text.now }
     ensures { result ≡ pair_at text.now i * 256 + pair_at text.now (i + 2) }
 {
-    let high = pair_in(digits, text[i], text[i + 1]);
-    let low = pair_in(digits, text[i + 2], text[i + 3]);
+    let high = digits.pair(text[i], text[i + 1]);
+    let low = digits.pair(text[i + 2], text[i + 3]);
     high * (BYTE_VALUES as u64) + low
 }
 
 // The line that starts at place `at` of a text: one of seven bytes four digits at a time, and any other by `line_at`.
-pub fn seven_at(digits: &Digits, text: &[u8], at: usize) -> Line
-    requires { DigitTable digits.now × (at ≤ length text.now) }
-    ensures { result ≡ line_read text.now at }
+pub fn seven_at(digits: &Digits, text: &[u8], at: usize) -> Option<Line>
+    requires { at ≤ length text.now }
+    ensures { result ≡ line_if (line_read text.now at) }
 {
     if text.len() <= at + DIGITS {
         return line_at(digits, text, at);
@@ -54,15 +55,15 @@ pub fn seven_at(digits: &Digits, text: &[u8], at: usize) -> Line
     if (NO_DIGIT as u64) <= third {
         return line_at(digits, text, at);
     }
-    let last = pair_in(digits, text[at + LAST], text[at + LAST + 1]);
+    let last = digits.pair(text[at + LAST], text[at + LAST + 1]);
     if (BYTE_VALUES as u64) <= last {
         return line_at(digits, text, at);
     }
-    Line {
+    Some(Line {
         kind: (first / (BYTE_VALUES as u64)) as u8,
         count: BYTES,
         front: 0,
         tail: ((first * FOUR_DIGITS + second) * FOUR_DIGITS + third) * (BYTE_VALUES as u64) + last,
         next: at + DIGITS + 1,
-    }
+    })
 }

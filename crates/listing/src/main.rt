@@ -6,91 +6,94 @@
 
 ghost use Rattle.std.specs.Prelude.{◌≡◌, length};
 
-use case_text::{behind, least, place_of, print_front, read_full, wide};
-use expansions::{PackedRules, PackedUnits, pack_rules, pack_units, unpacked};
-use items::{ITEMS_MOST, Place, is_allowed, move_at, next_item, place_behind};
-use sheet::{BAR_UNITS, Children, ONSETS_MOST, RULES_MOST, Reading, Units};
+use case_text::{behind, place_of, print_front, read_full};
+use expansions::{PackedUnits, pack_units};
+use items::{ITEMS_MOST, Pending, Place, move_at};
+use sheet::{BAR_UNITS, GrammarTable, ONSETS_MOST, Reading, Units};
 use sizes::TREE_BYTES_MOST;
 use std::io;
-use tally::{NONE, Tally, gone_wrong, print_tally, with_list};
+use tally::Tally;
 
 mod items;
 mod tally;
 
-// Adds every tree that begins with the first `nodes` bytes of the list, which leave p to be derived.
-fn explore<'a>(
+// The cells of the work slice.
+const WORK_CELLS: usize = 8192;
+
+// What finding is lent, and the list that trees are made in, which also holds a line to print.
+#[derive(Drop)]
+struct Slices {
+    tree: [u8; TREE_BYTES_MOST],
+    work: [u64; WORK_CELLS],
+    list: [u8; TREE_BYTES_MOST],
+}
+
+// A sheet: its text, its grammar, and its onsets' units; and the tree that finding gave.
+#[derive(Clone, Copy)]
+struct Given<'a> {
     text: &'a [u8],
-    rules: &'a PackedRules,
-    children: &'a Children,
-    units: &'a PackedUnits,
+    grammar: GrammarTable,
+    units: PackedUnits,
     found: &'a [u8],
-    list: &mut [u8],
-    nodes: usize,
-    p: Place,
-    t: Tally,
-) -> Tally
+}
+
+// Adds every tree that begins with the first `nodes` bytes of the list, which leave p to be derived.
+fn explore(given: &Given, list: &mut [u8], nodes: usize, p: &Place, tally: &mut Tally)
     ensures { length list.new ≡ length list.old }
 {
     if list.len() < nodes {
-        return gone_wrong(t);
+        tally.goes_wrong();
+        return;
     }
-    if p.items == 0 {
-        return with_list(text, found, &list[..nodes], p.carried, t);
-    }
+    let Some(item) = p.next_item() else {
+        tally.add(given.text, given.found, &list[..nodes], p.carried);
+        return;
+    };
     if list.len() == nodes {
-        return gone_wrong(t);
+        tally.goes_wrong();
+        return;
     }
-    let next = nodes + 1;
-    let item = next_item(p);
-    let mut tally = t;
-    let mut r: usize = 0;
-    while r < RULES_MOST {
-        let i = r;
-        r += 1;
-        let m = move_at(units, unpacked(rules[i]), item, p.carried);
-        if is_allowed(m) {
+    for (i, &rule) in given.grammar.rules.iter().enumerate() {
+        if let Some(m) = move_at(&given.units, rule, item, p.carried) {
             list[nodes] = i as u8;
-            let q = place_behind(children, i, m, item, p);
-            let more = explore(text, rules, children, units, found, list, next, q, tally);
-            tally = more;
+            let behind = p.behind(&given.grammar.children, i, m, item);
+            explore(given, list, nodes + 1, &behind, tally);
         }
     }
-    tally
 }
 
 // Every tree of a sheet as it was read.
 fn list_all<'a>(text: &'a [u8], sheet: Reading, found: &'a [u8], list: &mut [u8]) -> Tally {
-    let none = Tally {
-        trees: 0,
-        least: NONE,
-        equals: 0,
-        first_found: false,
-        wrong: 0,
-    };
+    let mut tally = Tally::new();
     let grammar = sheet.grammar;
     let playing = sheet.playing;
-    if sheet.number != 0 {
-        return none;
-    }
     if ONSETS_MOST < playing.count {
-        return none; // no accepted sheet has so many
+        return tally; // no accepted sheet has so many onsets
     }
-    let rules = pack_rules(grammar);
     let units = pack_units(playing);
-    let children = grammar.children;
+    let given = Given {
+        text,
+        grammar,
+        units,
+        found,
+    };
+    let bar = Pending {
+        name: grammar.start,
+        len: Units(BAR_UNITS),
+    };
     let bars = Place {
-        names: [grammar.start; ITEMS_MOST],
-        lens: [BAR_UNITS; ITEMS_MOST],
-        items: wide(playing.bars),
+        items: [bar; ITEMS_MOST],
+        count: usize::from(playing.bars),
         left: Units(0),
         carried: 0,
     };
-    explore(text, &rules, &children, &units, found, list, 0, bars, none)
+    explore(&given, list, 0, &bars, &mut tally);
+    tally
 }
 
 // Prints the bytes of a tree, if there are any, and closes the line.
 fn print_tree(rt: &impl Print, tree: &[u8], page: &mut [u8]) -> io::Result<()> {
-    if tree.len() != 0 {
+    if !tree.is_empty() {
         rt.write_all(b" ")?;
     }
     let stop = hextext::write_line(tree, page, 0);
@@ -98,35 +101,28 @@ fn print_tree(rt: &impl Print, tree: &[u8], page: &mut [u8]) -> io::Result<()> {
 }
 
 // Finds the first least tree of a sheet, lists all its trees and prints the comparison.
-fn compare(
-    rt: &impl Print,
-    text: &[u8],
-    tree: &mut [u8],
-    work: &mut [u64],
-    list: &mut [u8],
-) -> io::Result<()> {
-    let f = finding::find(text, tree, work);
-    let nodes = least(f.nodes, tree.len());
-    let t = list_all(text, reading::read(text), &tree[..nodes], list);
-    print_tally(rt, t, f)?;
-    print_tree(rt, &tree[..nodes], list)
+fn compare(rt: &impl Print, text: &[u8], slices: &mut Slices) -> io::Result<()> {
+    let answer = finding::find(text, &mut slices.tree, &mut slices.work);
+    let nodes = answer.map_or(0, |p| p.nodes);
+    let tree = &slices.tree[..nodes.min(TREE_BYTES_MOST)];
+    let tally = match reading::read(text) {
+        Ok(sheet) => list_all(text, sheet, tree, &mut slices.list),
+        Err(_) => Tally::new(),
+    };
+    tally.print(rt, answer)?;
+    print_tree(rt, tree, &mut slices.list)
 }
 
 // Each sheet of the input: it starts behind a line that begins with # and names it, and ends before the next #.
-fn run(
-    rt: &impl Print,
-    s: &[u8],
-    tree: &mut [u8],
-    work: &mut [u64],
-    list: &mut [u8],
-) -> io::Result<()> {
+fn run(rt: &impl Print, s: &[u8], slices: &mut Slices) -> io::Result<()> {
     let mut at = place_of(s, 0, b'#');
+    // No `for`: a round takes one sheet, of any length.
     while at < s.len() {
         let end = place_of(s, at, b'\n');
         let start = behind(s, end);
         let stop = place_of(s, start, b'#');
         rt.write_all(&s[at..end])?;
-        compare(rt, &s[start..stop], tree, work, list)?;
+        compare(rt, &s[start..stop], slices)?;
         at = stop;
     }
     Ok(())
@@ -134,9 +130,11 @@ fn run(
 
 fn main(rt: HostRuntime) -> io::Result<()> {
     let mut input = [0u8; 65536];
-    let mut tree = [0u8; TREE_BYTES_MOST];
-    let mut work = [0u64; 8192];
-    let mut list = [0u8; TREE_BYTES_MOST];
+    let mut slices = Slices {
+        tree: [0; TREE_BYTES_MOST],
+        work: [0; WORK_CELLS],
+        list: [0; TREE_BYTES_MOST],
+    };
     let n = read_full(&mut rt.stdin(), &mut input)?;
-    run(&rt, &input[..n], &mut tree, &mut work, &mut list)
+    run(&rt, &input[..n], &mut slices)
 }

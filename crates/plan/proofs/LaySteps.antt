@@ -4,6 +4,9 @@ use mathlib.Core.Path.{◌≡◌, refl, ap, ◌∙◌}
 use mathlib.Core.List.{List}
 use native.Mathlib.Decide.{dec_lt}
 use native.Mathlib.Omega.{arith}
+use borrow.Author.Rules.{rules}
+use borrow.Rule.Slice.PartMut.{put_mid}
+use Rattle.std.proofs.lemmas.List.{places}
 use lib.ListN.{length, set, get_or, length-set}
 use lib.Seq.{get_or-set_same, get_or-set_other}
 use Rattle.groups.specs.Groups.{numbers_most, first_cells}
@@ -27,6 +30,15 @@ module _ {f : ℕ → ℕ} {xs ys : List ℕ} {at m : ℕ} (so_far : Laid f xs y
     ];
     kept = λ i h. get_or-set_other ys (at + m) i v 0 (λ e. omega arith) ∙ so_far.kept i h;
   }
+
+-- a table copied to its place
+pub laid_copied : (xs ys table : List ℕ) (at k : ℕ) → ys ≡ table → k ≡ length table → at + length table ≤ length xs
+    → Laid (λ i. get_or table i 0) xs (put_mid at k xs ys) at (length table)
+laid_copied xs ys table at k is size within = rw (is, size) (record {
+  size = search (rules, places);
+  each = λ i h. search (rules, places);
+  kept = λ i h. search (rules, places);
+})
 
 -- ---- sections together
 

@@ -105,8 +105,15 @@ module _ (rules : List ℕ) (a : ℕ) (leaves : List ℕ) (i : ℕ) (so_far : Lo
   cell : (s : Sheet) → RulesHeld s rules → (x : held.Rule) → rule ≡ x → cell_of (rule_at s i) ≡ x
   cell s t x e = cell_read s rules i t.rules below rule x is e
 
-  pub lowered_division : (h w k : ℕ) → rule ≡ Division h w k → Lowered rules a leaves (i + 1)
+  lowered_division : (h w k : ℕ) → rule ≡ Division h w k → Lowered rules a leaves (i + 1)
   lowered_division h w k e s t m = idle s leaves i (so_far s t m) h w k (division_rule (rule_at s i) h w k (cell s t _ e))
+
+  pub lowered_other : ((h w n : ℕ) → rule ≡ Leaf h w n → ⊥) → Lowered rules a leaves (i + 1)
+  lowered_other other = go rule refl
+    where
+      go : (x : held.Rule) → rule ≡ x → Lowered rules a leaves (i + 1)
+      go (Division h w k) e = lowered_division h w k e
+      go (Leaf h w n) e = absurd (other h w n e)
 
   module _ (h w n : ℕ) (e : rule ≡ Leaf h w n) where
     leaf_there : (s : Sheet) → RulesHeld s rules → rule_at s i ≡ some (leaf h w n)

@@ -14,20 +14,21 @@ use lib.Seq.{get_or-set_same, get_or-set_other}
 use Rattle.slices.specs.Every.{every_in}
 use Rattle.groups.specs.Sums.{sum_to, sum-part, sum-two, sum_same, sum_but}
 use Rattle.sheet.specs.declared.table.Rule as held
-use Rattle.sheet.specs.declared.table.Rule.TheVariants.{Division, Leaf}
+use Rattle.sheet.specs.declared.table.Rule.TheVariants.{Division}
 use Rattle.sheet.specs.Sheet.{division, Sheet}
+use Rattle.sheet.specs.Held.{weight_in}
 use Rattle.trees.specs.ValidTrees.{rule_at, token, weight_at}
 use Rattle.trees.specs.LeastTotal.{NONE}
 use Rattle.trees.proofs.RoomLaws.{good_division}
 use Rattle.expansions.specs.Tables.{unpacked_of, cell_of, RulesHeld}
-use Rattle.expansions.specs.RuleCells.{leaf≢division}
+use Rattle.expansions.specs.RuleCells.{cell_weight}
 use Rattle.plan.specs.Layout.{ways_at, plan_cells}
 use Rattle.plan.specs.Leaves.{least_leaf}
 use Rattle.plan.specs.Ways.{beside_at, beside_sum, beside}
 use Rattle.plan.specs.Plan.{way_cell}
 use Rattle.plan.specs.PlanLaws.{child_in, token_below}
 use Rattle.plan.specs.Sections.{placed_in, rest_in, DivisionHeld, WaysPut, PartWays, DivisionWays, WaysLaid}
-use Rattle.plan.proofs.RuleSteps.{cell_read, division_weight}
+use Rattle.plan.proofs.RuleSteps.{cell_read}
 use Rattle.plan.proofs.SavedSteps.{packed_cell_least}
 
 -- ---- what the parts cost
@@ -213,17 +214,14 @@ module _ {rules children leaves : List ℕ} {a : ℕ} {before middle : List ℕ}
   cell : (s : Sheet) → RulesHeld s rules → (x : held.Rule) → rule ≡ x → cell_of (rule_at s r) ≡ x
   cell s t x e = cell_read s rules r t.rules below rule x is e
 
-  pub ways_leaf : {h w n : ℕ} → rule ≡ Leaf h w n → WaysLaid rules children leaves a before middle (r + 1)
-  ways_leaf e = idle (λ s t q w ks o. leaf≢division _ _ _ _ _ _ (sym (cell s t _ e) ∙ ap cell_of o))
+  -- the rule is no division, or has more parts than a good grammar's divisions
+  pub ways_idle : ((h w k : ℕ) → rule ≡ Division h w k → k ≤ 8 → ⊥) → WaysLaid rules children leaves a before middle (r + 1)
+  ways_idle other =
+      idle (λ s t q w ks o. other q w (length ks) (sym (cell s t _ refl) ∙ ap cell_of o) (good_division s t.good r q w ks o).eight)
 
   module _ {h w k : ℕ} (e : rule ≡ Division h w k) where
     shape : (s : Sheet) → RulesHeld s rules → (q v : ℕ) (ks : List ℕ) → rule_at s r ≡ some (division q v ks) → k ≡ length ks
     shape s t q v ks o = let same : Division h w k ≡ Division q v (length ks) = sym (cell s t _ e) ∙ ap cell_of o in cc same
-
-    -- a good grammar's divisions have at most 8 parts
-    pub ways_wide : 8 < k → WaysLaid rules children leaves a before middle (r + 1)
-    ways_wide wide =
-        idle (λ s t q v ks o. omega (arith, shape s t q v ks o, (good_division s t.good r q v ks o).eight))
 
     pub ways_more : {after : List ℕ} → DivisionWays children leaves (a * w) r k middle after k
         → WaysLaid rules children leaves a before after (r + 1)
@@ -240,7 +238,7 @@ module _ {rules children leaves : List ℕ} {a : ℕ} {before middle : List ℕ}
             rw same
             (λ s t p am q v ks o within.
             here.each s ks (record { tables = p; head = q; weight = v; rule = o; count = shape s t q v ks o })
-            (rw am (ap (λ (z : ℕ). s.grammar.multiplier * z) (division_weight (rule_at s r) h w k (cell s t _ e)))) j i
+            (rw am (ap (λ (z : ℕ). s.grammar.multiplier * z) (ap weight_in (sym (cell s t _ e)) ∙ cell_weight (rule_at s r)))) j i
             (omega (arith, shape s t q v ks o)) three)
       ];
       kept = λ i h. here.kept i (omega arith) ∙ so_far.kept i h;

@@ -1,6 +1,6 @@
 -- What the search looks up of a grammar, as a function of the sheet, and where it stands in the plan: one flat array of numbers that is
 -- prepared once for a sheet.
-use Rattle.std.specs.Prelude.{ℕ, ◌+◌, ◌-◌, ◌*◌, ◌%◌, ◌≤◌, ◌<◌, ◌≡◌, List, map, length, get_or}
+use Rattle.std.specs.Prelude.{ℕ, ◌+◌, ◌-◌, ◌*◌, ◌%◌, ◌≤◌, ◌<◌, ◌≡◌, List, map, length, get_or, Option, IfSome, MatchOption, ◌≢◌}
 use Rattle.std.proofs.Math.Option.{some}
 use Rattle.groups.specs.Groups.{key_count, number_in}
 use Rattle.sheet.specs.Sheet.{division, Sheet}
@@ -122,10 +122,15 @@ pub record Prepared (s : Sheet) (plan : List ℕ) : Type 0 where
 
 -- ---- a rule as a division
 
--- what `shape_at` gives
-pub record ShapeAt (s : Sheet) (r : ℕ) (x : Shape) : Type 0 where
+-- rule r is a division of the shape x
+pub record HasShape (s : Sheet) (r : ℕ) (x : Shape) : Type 0 where
   pub arity : x.arity ≡ arity_of (rule_at s r)
+  pub some_parts : x.arity ≢ 0
   pub head : (q w : ℕ) (ks : List ℕ) → rule_at s r ≡ some (division q w ks) → x.head ≡ q
+
+-- what `shape_at` gives: None where the rule has no parts
+abbrev pub ShapeAt : Sheet → (r : ℕ) → Option Shape → Type 0
+ShapeAt s r x = MatchOption x (arity_of (rule_at s r) ≡ 0) (HasShape s r)
 
 -- ---- a rule at a nonterminal and a length
 
@@ -138,18 +143,28 @@ pub record Divides (s : Sheet) (q l r arity part : ℕ) : Type 0 where
   pub shorter : part < lengths s
   pub whole : length_at s l ≡ arity * length_at s part
 
--- what `split_by` gives: k parts of a length, or arity 0 where there is no such part or k is no arity
-pub record PartsOf (s : Sheet) (l k : ℕ) (x : Split) : Type 0 where
-  pub idle : x.arity ≡ 0 → 2 ≤ k → k ≤ 8 → (i : ℕ) → i < lengths s → length_at s l ≡ k * length_at s i → ⊥
-  pub into : (x.arity ≡ 0 → ⊥) → x.arity ≡ k
-  pub shorter : (x.arity ≡ 0 → ⊥) → x.part < lengths s
-  pub whole : (x.arity ≡ 0 → ⊥) → length_at s l ≡ k * length_at s x.part
+-- a split into parts is into 2 to 8 of them
+abbrev pub InArities : Option Split → Type 0
+InArities x = IfSome x (λ y. (2 ≤ y.arity) × (y.arity ≤ 8))
+
+-- the length with index l is k parts of the length with index x.part
+pub record HasParts (s : Sheet) (l k : ℕ) (x : Split) : Type 0 where
+  pub into : x.arity ≡ k
+  pub shorter : x.part < lengths s
+  pub whole : length_at s l ≡ k * length_at s x.part
+
+-- where k is an arity, no length is a k-th of the length with index l
+abbrev pub NoParts : Sheet → (l k : ℕ) → Type 0
+NoParts s l k = 2 ≤ k → k ≤ 8 → (i : ℕ) → i < lengths s → length_at s l ≡ k * length_at s i → ⊥
+
+-- what `split_by` gives: None where there is no such part or k is no arity
+abbrev pub PartsOf : Sheet → (l k : ℕ) → Option Split → Type 0
+PartsOf s l k x = MatchOption x (NoParts s l k) (HasParts s l k)
 
 -- rule r is no division of nonterminal q whose arity divides the length with index l
 abbrev pub NoDivision : Sheet → (q l r : ℕ) → Type 0
 NoDivision s q l r = (w : ℕ) (ks : List ℕ) → rule_at s r ≡ some (division q w ks) → length_at s l % length ks ≡ 0 → ⊥
 
--- what `split_at` gives: arity 0 where there is no division
-pub record SplitAt (s : Sheet) (q l r : ℕ) (x : Split) : Type 0 where
-  pub idle : x.arity ≡ 0 → NoDivision s q l r
-  pub divides : (x.arity ≡ 0 → ⊥) → Divides s q l r x.arity x.part
+-- what `split_at` gives: None where there is no division
+abbrev pub SplitAt : Sheet → (q l r : ℕ) → Option Split → Type 0
+SplitAt s q l r x = MatchOption x (NoDivision s q l r) (λ y. Divides s q l r y.arity y.part)

@@ -21,14 +21,14 @@ use sheet::{Children, GrammarTable};
 use sizes::{LengthCells, LengthTable};
 
 // Lays all sections, one behind the other.
-fn lay_sections<'a>(
+fn lay_sections(
     plan: &mut [u64],
-    rules: &'a PackedRules,
-    children: &'a Children,
-    leaves: &'a Leaves,
-    lens: &'a LengthCells,
-    order: &'a Numbers,
-    first: &'a Firsts,
+    rules: &PackedRules,
+    children: &Children,
+    leaves: &Leaves,
+    lens: &LengthCells,
+    order: &Numbers,
+    first: &Firsts,
     a: u16,
     heads: usize,
     count: usize,
@@ -54,17 +54,19 @@ pub fn prepare(plan: &mut Plan, grammar: GrammarTable, reached: LengthTable)
         → reached ≡ length_table (lengths_of s.grammar.rules) → Prepared s plan.new }
 {
     let rules = pack_rules(grammar);
-    let children = grammar.children;
-    let a = grammar.multiplier;
-    let n = grammar.count;
-    let heads = grammar.nonterminals as usize;
-    let leaves = least_leaves(&rules, a, n);
-    let lens = reached.cells;
-    let count = reached.count;
-    let groups = by_head(&rules, n);
-    let order = groups.order;
-    let first = groups.first;
+    let leaves = least_leaves(&rules, grammar.multiplier, grammar.count);
+    let groups = by_head(&rules, grammar.count);
     lay_sections(
-        plan, &rules, &children, &leaves, &lens, &order, &first, a, heads, count, n,
+        plan,
+        &rules,
+        &grammar.children,
+        &leaves,
+        &reached.cells,
+        &groups.order,
+        &groups.first,
+        grammar.multiplier,
+        grammar.nonterminals as usize,
+        reached.count,
+        grammar.count,
     );
 }

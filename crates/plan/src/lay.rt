@@ -19,11 +19,7 @@ pub fn lay_cells(plan: &mut [u64], at: usize, table: &[u64])
     requires { at + length table.now ≤ length plan.old }
     ensures { Laid (λ i. get_or table.now i 0) plan.old plan.new at (length table.now) }
 {
-    let mut i: usize = 0;
-    while i < table.len() {
-        plan[at + i] = table[i];
-        i += 1;
-    }
+    plan[at..at + table.len()].copy_from_slice(table);
 }
 
 // Lays the nonterminals of the rules' parts.
@@ -31,10 +27,8 @@ fn lay_children(plan: &mut [u64], children: &Children)
     requires { (length plan.old ≡ plan_cells) × Small children.now }
     ensures { Laid (λ i. get_or children.now i 0) plan.old plan.new children_at 512 }
 {
-    let mut i: usize = 0;
-    while i < CHILD_CELLS {
+    for i in 0..CHILD_CELLS {
         plan[CHILDREN_AT + i] = children[i] as u64;
-        i += 1;
     }
 }
 
@@ -43,20 +37,18 @@ fn lay_lengths(plan: &mut [u64], lens: &LengthCells)
     requires { (length plan.old ≡ plan_cells) × Small lens.now }
     ensures { Laid (λ i. get_or lens.now i 0) plan.old plan.new lengths_at 84 }
 {
-    let mut i: usize = 0;
-    while i < LENGTHS_MOST {
+    for i in 0..LENGTHS_MOST {
         plan[LENGTHS_AT + i] = lens[i] as u64;
-        i += 1;
     }
 }
 
 // Lays the rules, the nonterminals of their parts, the leaves and the lengths.
-pub fn lay_tables<'a>(
+pub fn lay_tables(
     plan: &mut [u64],
-    rules: &'a PackedRules,
-    children: &'a Children,
-    leaves: &'a Leaves,
-    lens: &'a LengthCells,
+    rules: &PackedRules,
+    children: &Children,
+    leaves: &Leaves,
+    lens: &LengthCells,
 )
     requires { (length plan.old ≡ plan_cells) × Small children.now × Small lens.now }
     ensures { TablesLaid rules.now children.now leaves.now lens.now plan.new }
@@ -68,7 +60,7 @@ pub fn lay_tables<'a>(
 }
 
 // Lays the rules by head and the first place of each group.
-pub fn lay_groups<'a>(plan: &mut [u64], order: &'a Numbers, first: &'a Firsts)
+pub fn lay_groups(plan: &mut [u64], order: &Numbers, first: &Firsts)
     requires { length plan.old ≡ plan_cells }
     ensures { GroupsLaid order.now first.now plan.old plan.new }
 {
@@ -81,10 +73,8 @@ pub fn lay_numbers(plan: &mut [u64], leaves: &Leaves, a: u16, heads: usize, coun
     requires { (length plan.old ≡ plan_cells) × (heads ≤ 16) }
     ensures { NumbersLaid leaves.now a heads count plan.old plan.new }
 {
-    let mut c: usize = 0;
-    while c < CARRIES {
+    for c in 0..CARRIES {
         plan[SAVINGS_AT + c] = saved_by(leaves, heads, c);
-        c += 1;
     }
     plan[MULTIPLIER_AT] = a as u64;
     plan[NONTERMINALS_AT] = heads as u64;

@@ -3,8 +3,11 @@ use groups::FIRST_CELLS;
 use sheet::{CHILD_CELLS, KIND_MOST, NONTERMINALS_MOST, PARTS_MOST, RULES_MOST};
 use sizes::LENGTHS_MOST;
 
-// The token kinds that a nonterminal's leaf rules may have.
-pub const KINDS: usize = KIND_MOST as usize + 1;
+// The placed counts that token kinds tell apart: the last stands for more as well.
+pub const PLACED_COUNTS: usize = KIND_MOST as usize;
+
+// The token kinds that a nonterminal's leaf rules may have: one of each placed count, and the rest.
+pub const KINDS: usize = PLACED_COUNTS + 1;
 
 // The cells of the least leaves: one of each nonterminal and kind.
 pub const LEAF_CELLS: usize = KINDS * NONTERMINALS_MOST;

@@ -7,7 +7,7 @@ ghost use Rattle.expansions.specs.Tables.{RulesHeld};
 ghost use Rattle.plan.specs.Plan.{rule_count, saved_at};
 ghost use Rattle.plan.specs.Sections.{PackedLeaves, MostSaved};
 
-use crate::layout::{KINDS, LEAF_CELLS};
+use crate::layout::{KINDS, LEAF_CELLS, PLACED_COUNTS};
 use crate::ways::{Leaves, NO_CELL};
 use expansions::{PackedRules, rule_at, token_of};
 use sheet::Rule;
@@ -19,43 +19,16 @@ pub fn least_leaves(rules: &PackedRules, a: u16, count: usize) -> Leaves
     ensures { (s : Sheet) → RulesHeld s rules.now → a ≡ s.grammar.multiplier → count ≡ rule_count s → PackedLeaves s result }
 {
     let mut leaves = [NO_CELL; LEAF_CELLS];
-    let mut r: usize = 0;
-    while r < count {
-        let rule = rule_at(rules, r);
-        let number = r as u64;
-        r += 1;
-        match rule {
-            Rule::Division {
-                head: _,
-                weight: _,
-                arity: _,
-            } => {}
-            Rule::Leaf { head, weight, n } => {
-                let at = KINDS * (head as usize) + (n as usize);
-                let cell = 64 * ((a as u64) * (weight as u64)) + number;
-                if at < LEAF_CELLS {
-                    if cell < leaves[at] {
-                        leaves[at] = cell;
-                    }
-                }
+    for r in 0..count {
+        if let Rule::Leaf { head, weight, n } = rule_at(rules, r) {
+            let at = KINDS * (head as usize) + (n as usize);
+            let cell = 64 * ((a as u64) * (weight as u64)) + (r as u64);
+            if at < LEAF_CELLS && cell < leaves[at] {
+                leaves[at] = cell;
             }
         }
     }
     leaves
-}
-
-// By how much a exceeds b; 0 where it does not.
-fn excess(a: u64, b: u64) -> u64
-    ensures { result ≡ a - b }
-{
-    if b < a { a - b } else { 0 }
-}
-
-// The larger of two numbers.
-fn larger(a: u64, b: u64) -> u64
-    ensures { result ≡ max a b }
-{
-    if a < b { b } else { a }
 }
 
 // The most that a leaf of nonterminal q with an onset before it is cheaper with c onsets carried in than with none.
@@ -64,13 +37,11 @@ fn saved_at(leaves: &Leaves, q: usize, c: usize) -> u64
     ensures { (s : Sheet) → GoodRules s.grammar → PackedLeaves s leaves.now → result ≡ largest (saved_at s q c) 4 }
 {
     let mut most: u64 = 0;
-    let mut e: usize = 0;
-    while e < 4 {
+    for e in 0..PLACED_COUNTS {
         let none = token_of(e, 1) as usize;
         let some = token_of(c + e, 1) as usize;
-        let x = excess(leaves[KINDS * q + none] / 64, leaves[KINDS * q + some] / 64);
-        most = larger(most, x);
-        e += 1;
+        let saved = (leaves[KINDS * q + none] / 64).saturating_sub(leaves[KINDS * q + some] / 64);
+        most = most.max(saved);
     }
     most
 }
@@ -81,11 +52,8 @@ pub fn saved_by(leaves: &Leaves, heads: usize, c: usize) -> u64
     ensures { MostSaved leaves.now heads c result }
 {
     let mut most: u64 = 0;
-    let mut q: usize = 0;
-    while q < heads {
-        let x = saved_at(leaves, q, c);
-        most = larger(most, x);
-        q += 1;
+    for q in 0..heads {
+        most = most.max(saved_at(leaves, q, c));
     }
     most
 }

@@ -1,5 +1,5 @@
-// What the search looks up of a grammar, prepared once for a sheet in one flat array: a reference to a struct is not covered, and a
-// grammar by value is copied at each call. The array is read through the functions below alone.
+// What the search looks up of a grammar, prepared once for a sheet in one flat array that is lent. The array is read through the functions
+// below alone.
 #![tactic(auto)]
 
 ghost use Rattle.std.specs.Prelude.{◌≡◌, ℕ, ◌*◌, ◌/◌, ◌<◌, ◌≤◌};
@@ -8,7 +8,7 @@ ghost use Rattle.trees.specs.ValidTrees.{weight_at};
 ghost use Rattle.plan.specs.Layout.{kinds};
 ghost use Rattle.plan.specs.Plan.{child_cell, leaf_cell, length_cell, rule_in, first_cell, last_cell, saved_cell, way_cell};
 ghost use Rattle.plan.specs.Plan.{nonterminals_cell, lengths_cell};
-ghost use Rattle.plan.specs.Plan.{lengths, Prepared, DivisionAt, ShapeAt, PartsOf, SplitAt};
+ghost use Rattle.plan.specs.Plan.{lengths, Prepared, DivisionAt, ShapeAt, PartsOf, SplitAt, InArities};
 
 mod fill;
 mod heads;
@@ -33,7 +33,7 @@ pub use ways::{NO_CELL, NONE};
 // What the functions below read.
 pub type Plan = [u64; PLAN_CELLS];
 
-// How a rule divides an interval: into `arity` parts of the length with index `part`; arity 0 where it does not.
+// How a rule divides an interval: into `arity` parts of the length with index `part`.
 #[derive(Clone, Copy)]
 pub struct Split {
     pub arity: usize,
@@ -139,95 +139,67 @@ pub fn cost(plan: &Plan, r: usize) -> u64
     requires { (r < 64) × ((s : Sheet) × Prepared s plan.now) }
     ensures { (result ≤ 4294836225) × ((s : Sheet) → Prepared s plan.now → result ≡ s.grammar.multiplier * weight_at s r) }
 {
-    let a = plan[MULTIPLIER_AT];
-    let rule = unpacked(plan[r]);
-    match rule {
-        Rule::Division {
-            head: _,
-            weight,
-            arity: _,
-        } => a * (weight as u64),
-        Rule::Leaf {
-            head: _,
-            weight,
-            n: _,
-        } => a * (weight as u64),
-    }
+    plan[MULTIPLIER_AT] * u64::from(unpacked(plan[r]).weight())
 }
 
-// What rule r is as a division: its head and its number of parts; arity 0 where it is none.
-pub fn shape_at(plan: &Plan, r: usize) -> Shape
+// What rule r is as a division: its head and its number of parts. None where it is no division; a cell past the rules is one of no parts.
+pub fn shape_at(plan: &Plan, r: usize) -> Option<Shape>
     requires { r < 64 }
     ensures { (s : Sheet) → Prepared s plan.now → ShapeAt s r result }
 {
-    let rule = unpacked(plan[r]);
-    match rule {
-        Rule::Division {
-            head,
-            weight: _,
-            arity,
-        } => Shape {
-            head: head as usize,
-            arity: arity as usize,
-        },
-        Rule::Leaf {
-            head: _,
-            weight: _,
-            n: _,
-        } => Shape { head: 0, arity: 0 },
+    match unpacked(plan[r]) {
+        Rule::Division { head, arity, .. } => {
+            if arity == 0 {
+                return None;
+            }
+            Some(Shape {
+                head: head as usize,
+                arity: arity as usize,
+            })
+        }
+        Rule::Leaf { .. } => None,
     }
 }
 
-// The length with index l in k parts; arity 0 where k is no arity or there is no such length.
-pub fn split_by(plan: &Plan, l: usize, k: usize) -> Split
+// The length with index l in k parts. None where k is no arity or there is no such length.
+pub fn split_by(plan: &Plan, l: usize, k: usize) -> Option<Split>
     requires { l < 84 }
-    ensures { (result.arity ≤ 8) × ((s : Sheet) → Prepared s plan.now → l < lengths s → PartsOf s l k result) }
+    ensures { InArities result × ((s : Sheet) → Prepared s plan.now → l < lengths s → PartsOf s l k result) }
 {
-    if k < 2 {
-        return Split { arity: 0, part: 0 };
-    }
-    if 8 < k {
-        return Split { arity: 0, part: 0 };
+    if k < 2 || PARTS_MOST < k {
+        return None;
     }
     let part = plan[PART_LENGTHS_AT + PART_CELLS * l + k];
     if plan[LENGTH_COUNT_AT] <= part {
-        return Split { arity: 0, part: 0 };
+        return None;
     }
-    Split {
+    Some(Split {
         arity: k,
         part: part as usize,
-    }
+    })
 }
 
-// How rule r divides an interval of nonterminal q and the length with index l.
-pub fn split_at(plan: &Plan, q: usize, l: usize, r: usize) -> Split
+// How rule r divides an interval of nonterminal q and the length with index l. None where it does not.
+pub fn split_at(plan: &Plan, q: usize, l: usize, r: usize) -> Option<Split>
     requires { (r < 64) × (l < 84) }
-    ensures { (result.arity ≤ 8) × ((s : Sheet) → Prepared s plan.now → l < lengths s → SplitAt s q l r result) }
+    ensures { InArities result
+        × ((s : Sheet) → Prepared s plan.now → l < lengths s → SplitAt s q l r result) }
 {
-    let rule = unpacked(plan[r]);
-    match rule {
-        Rule::Division {
-            head,
-            weight: _,
-            arity,
-        } => {
+    match unpacked(plan[r]) {
+        Rule::Division { head, arity, .. } => {
             if head as usize != q {
-                return Split { arity: 0, part: 0 };
+                return None;
             }
             split_by(plan, l, arity as usize)
         }
-        Rule::Leaf {
-            head: _,
-            weight: _,
-            n: _,
-        } => Split { arity: 0, part: 0 },
+        Rule::Leaf { .. } => None,
     }
 }
 
-// How the rule at place i, a division, divides an interval of the length with index l.
-pub fn split_at_place(plan: &Plan, l: usize, i: usize) -> Split
+// How the rule at place i, a division, divides an interval of the length with index l. None where it does not.
+pub fn split_at_place(plan: &Plan, l: usize, i: usize) -> Option<Split>
     requires { (i < 64) × (l < 84) }
-    ensures { (result.arity ≤ 8)
+    ensures { InArities result
         × ((s : Sheet) (q : ℕ) → Prepared s plan.now → DivisionAt plan.now q i → l < lengths s
         → SplitAt s q l (rule_in plan.now i) result) }
 {

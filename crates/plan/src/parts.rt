@@ -31,11 +31,9 @@ fn lay_parts_of(plan: &mut [u64], lens: &LengthCells, count: usize, l: usize)
 {
     let len = lens[l];
     let mut h = l;
-    let mut k: usize = 2;
-    while k < PART_CELLS {
+    for k in 2..PART_CELLS {
         h = first_at_most(lens, count, h, Units(len / (k as u32)));
         plan[PART_LENGTHS_AT + PART_CELLS * l + k] = part_at(lens, count, l, k, h);
-        k += 1;
     }
 }
 
@@ -44,9 +42,7 @@ pub fn lay_parts(plan: &mut [u64], lens: &LengthCells, count: usize)
     requires { (length plan.old ≡ plan_cells) × (count ≤ 84) × Small lens.now × Falling lens.now count }
     ensures { PartsLaid lens.now count plan.old plan.new count }
 {
-    let mut l: usize = 0;
-    while l < count {
+    for l in 0..count {
         lay_parts_of(plan, lens, count, l);
-        l += 1;
     }
 }

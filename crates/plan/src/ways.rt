@@ -8,7 +8,7 @@ ghost use Rattle.plan.specs.Sections.{Small, Wide, placed_in, rest_in, WaysPut, 
 
 use crate::layout::{KINDS, LEAF_CELLS, WAYS, WAYS_AT};
 use expansions::{PackedRules, rule_at, token_of};
-use sheet::{Children, PARTS_MOST, Rule};
+use sheet::{Children, NONTERMINALS_MOST, PARTS_MOST, Rule};
 
 // What stands for "no tree", above every total.
 pub const NONE: u64 = 1125899906842624;
@@ -24,7 +24,7 @@ fn placed_cost(leaves: &Leaves, q: usize, n: usize) -> u64
     requires { (n < 4) × Wide leaves.now }
     ensures { (result < 288230376151711744) × (result ≡ placed_in leaves.now q n) }
 {
-    if 16 <= q {
+    if NONTERMINALS_MOST <= q {
         return 0;
     }
     let kind = token_of(n, 1) as usize;
@@ -32,17 +32,14 @@ fn placed_cost(leaves: &Leaves, q: usize, n: usize) -> u64
 }
 
 // What the k parts of rule r cost as leaves of nothing.
-fn rest_sum<'a>(children: &'a Children, leaves: &'a Leaves, r: usize, k: usize) -> u64
+fn rest_sum(children: &Children, leaves: &Leaves, r: usize, k: usize) -> u64
     requires { (r < 64) × (k ≤ 8) × Small children.now × Wide leaves.now }
     ensures { (result ≤ 2305843009213693952) × (result ≡ sum_to (rest_in children.now leaves.now r) k) }
 {
     let mut sum: u64 = 0;
-    let mut i: usize = 0;
-    while i < k {
+    for i in 0..k {
         let q = children[PARTS_MOST * r + i] as usize;
-        let x = placed_cost(leaves, q, 0);
-        sum += x;
-        i += 1;
+        sum += placed_cost(leaves, q, 0);
     }
     sum
 }
@@ -52,10 +49,7 @@ fn packed_cost(x: u64, r: usize) -> u64
     requires { r < 64 }
     ensures { result ≡ 64 * min NONE x + r }
 {
-    if x < NONE {
-        return 64 * x + (r as u64);
-    }
-    NO_CELL + (r as u64)
+    64 * x.min(NONE) + (r as u64)
 }
 
 // Stores the three ways of part j of rule r.
@@ -71,10 +65,10 @@ fn put_ways(plan: &mut [u64], r: usize, j: usize, straight: u64, crossed: u64, o
 
 // Lays the ways of part j of rule r, of k parts, where the rule and the other parts cost x. Only the last part's onset can be carried out
 // of the whole; another's is carried into the part behind it.
-fn lay_part<'a>(
+fn lay_part(
     plan: &mut [u64],
-    children: &'a Children,
-    leaves: &'a Leaves,
+    children: &Children,
+    leaves: &Leaves,
     x: u64,
     r: usize,
     k: usize,
@@ -97,10 +91,10 @@ fn lay_part<'a>(
 }
 
 // Lays the ways of rule r, a division into k parts.
-fn lay_division<'a>(
+fn lay_division(
     plan: &mut [u64],
-    children: &'a Children,
-    leaves: &'a Leaves,
+    children: &Children,
+    leaves: &Leaves,
     cost: u64,
     r: usize,
     k: usize,
@@ -109,54 +103,31 @@ fn lay_division<'a>(
     ensures { DivisionWays children.now leaves.now cost r k plan.old plan.new k }
 {
     let all = cost + rest_sum(children, leaves, r, k);
-    let mut j: usize = 0;
-    while j < k {
+    for j in 0..k {
         let q = children[PARTS_MOST * r + j] as usize;
         let own = placed_cost(leaves, q, 0);
         lay_part(plan, children, leaves, all - own, r, k, j);
-        j += 1;
     }
 }
 
 // Lays the ways of the first n rules: those of the divisions among them.
-pub fn lay_ways<'a>(
+pub fn lay_ways(
     plan: &mut [u64],
-    rules: &'a PackedRules,
-    children: &'a Children,
-    leaves: &'a Leaves,
+    rules: &PackedRules,
+    children: &Children,
+    leaves: &Leaves,
     a: u16,
     n: usize,
 )
     requires { (length plan.old ≡ plan_cells) × (n ≤ 64) × Small children.now × Wide leaves.now }
     ensures { WaysLaid rules.now children.now leaves.now a plan.old plan.new n }
 {
-    let mut r: usize = 0;
-    while r < n {
-        let rule = rule_at(rules, r);
-        let at = r;
-        r += 1;
-        match rule {
-            Rule::Division {
-                head: _,
-                weight,
-                arity,
-            } => {
-                if arity <= 8 {
-                    lay_division(
-                        plan,
-                        children,
-                        leaves,
-                        (a as u64) * (weight as u64),
-                        at,
-                        arity as usize,
-                    );
-                }
-            }
-            Rule::Leaf {
-                head: _,
-                weight: _,
-                n: _,
-            } => {}
+    for r in 0..n {
+        if let Rule::Division { weight, arity, .. } = rule_at(rules, r)
+            && arity as usize <= PARTS_MOST
+        {
+            let cost = (a as u64) * (weight as u64);
+            lay_division(plan, children, leaves, cost, r, arity as usize);
         }
     }
 }

@@ -1,7 +1,8 @@
 -- A moment by a clock: how it is refused, and where it is not. Assumes nothing.
 use Prim.Native.Nat.{ℕ, ◌*◌, ◌≤◌, ◌<◌}
-use mathlib.Core.Path.{◌≡◌, sym, ◌∙◌}
+use mathlib.Core.Path.{◌≡◌, sym}
 use mathlib.Core.List.{List}
+use Rattle.sheet.specs.declared.clock.Micros.{Micros}
 use native.Mathlib.Omega.{arith}
 use native.Mathlib.Decide.{dec_le}
 use borrow.Author.Tests.{le-leb, lt-ltb, lt-leb}
@@ -11,8 +12,7 @@ use Rattle.sheet.proofs.BarLines.{rises, end_reached, end_not_reached}
 use Rattle.sheet.specs.PlayingLaws.{moment_early, moment_past, moment_late}
 use Rattle.bar_lines.specs.declared.clock.Clock.{Clock}
 use Rattle.bar_lines.specs.Lines.{ClockOf}
-use Rattle.playing.specs.declared.onset.Moment.{Moment}
-use Rattle.playing.specs.Clauses.{timing_in, MomentOf}
+use Rattle.playing.specs.Clauses.{timing_in}
 
 -- a moment that falls
 pub falls : (bars : ℕ) (timing : Timing) (last t : ℕ) → t < last → 6 ≡ moment_refusal bars timing last t
@@ -26,7 +26,7 @@ unfolding moment_refusal
 inside bars timing last t up begins within =
     simp (le-leb last t up, le-leb _ _ begins, lt-ltb _ _ within.0, lt-ltb _ _ within.1)
 
-module _ (cells : List ℕ) (c : Clock) (h : ClockOf cells c) (t : ℕ) where
+module _ (cells : List Micros) (c : Clock) (h : ClockOf cells c) (t : ℕ) where
   abbrev timing : Timing
   timing = timing_in cells c
 
@@ -53,8 +53,3 @@ module _ (cells : List ℕ) (c : Clock) (h : ClockOf cells c) (t : ℕ) where
     before_end k =
         end_not_reached timing bars h.lines.time.count (rises bars timing h.lines.time) t h.lines.one first_line
         (let is = h.end in omega (arith, k, is))
-
--- a moment that is refused with number k
-pub refused : {cells : List ℕ} {c : Clock} {last t k : ℕ} {r : Moment} → r.number ≡ k → (k ≡ 0 → ⊥)
-    → k ≡ moment_refusal c.bars (timing_in cells c) last t → MomentOf cells c last t r
-refused e f is = record { number = e ∙ is; unit = λ z. absurd (f (sym e ∙ z)) }

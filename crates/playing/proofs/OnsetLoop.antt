@@ -11,12 +11,16 @@ use Rattle.hextext.specs.Text.{line_bytes}
 use Rattle.hextext.specs.Packed.{line_read}
 use Rattle.hextext.specs.Laws.{line_within, line_size_pos}
 use Rattle.hextext.specs.PackedLaws.{line_next}
+use Rattle.sheet.specs.declared.clock.Micros.{Micros}
 use Rattle.sheet.specs.declared.table.PlayingTable.{PlayingTable}
 use Rattle.playing.specs.declared.onset.Latest.{Latest}
 use Rattle.playing.specs.declared.onset.OnsetStep.{OnsetStep}
 use Rattle.playing.specs.declared.Take.{Take}
-use Rattle.sheet.specs.Sheet.{Grammar, Playing, Timing, TimedSheet, no_playing, unit_in, bar_of, in_bar}
-use Rattle.sheet.specs.Outcome.{Outcome, accepted}
+use Rattle.sheet.specs.Sheet.{Grammar, Playing, Timing, no_playing, unit_in, bar_of, in_bar}
+use Rattle.std.proofs.Common.{Ok, Err}
+use Rattle.sheet.specs.declared.refusal.Refusal.{Refusal}
+use Rattle.sheet.specs.Refusal.{number_of, number_some}
+use Rattle.sheet.specs.Outcome.{accepted}
 use Rattle.sheet.specs.Reading.{byte, four, onset_refusal, onset_of, with_onset, in_onsets, after}
 use Rattle.sheet.specs.Rest.{read_rest, stopped, rest_end, rest_past, rest_bad, rest_stop, rest_held, rest_on}
 use Rattle.sheet.specs.Held.{LineHeld, units, playing_table, timing_table, no_grammar, micros}
@@ -27,11 +31,11 @@ use Rattle.sheet.proofs.GoodBars.{good_none}
 use Rattle.sheet.proofs.GoodLines.{good_onset}
 use Rattle.bar_lines.specs.declared.clock.Clock.{Clock}
 use Rattle.bar_lines.specs.Lines.{ClockOf}
-use Rattle.playing.specs.Clauses.{timing_in, tapped_in, LatestIn, OnsetsSoFar, OnsetStepped, OnsetStepOf, TakeRead}
+use Rattle.playing.specs.Clauses.{timing_in, tapped_in, LatestIn, OnsetsSoFar, OnsetAdded, OnsetStepOf, TakeDone}
 use Rattle.playing.proofs.Tables.{onset_stored}
 
 -- none yet
-pub onsets_none : (t : List ℕ) (at n : ℕ) (c : Clock) (cells : List ℕ) (table : PlayingTable) (s : Latest) → at ≤ length t
+pub onsets_none : (t : List ℕ) (at n : ℕ) (c : Clock) (cells : List Micros) (table : PlayingTable) (s : Latest) → at ≤ length t
     → n ≤ at + 1 → 0 < n → ClockOf cells c → table ≡ playing_table (no_playing c.bars)
     → s ≡ record { time = micros 0; bar = 0; run = 0 } → OnsetsSoFar t at n c cells table s at n 0
 unfolding in_bar
@@ -59,12 +63,12 @@ onsets_none t at n c cells table s w l pos clock e none =
     }
 
 -- another name for the number of the next line
-pub renumbered : {t : List ℕ} {at n : ℕ} {c : Clock} {cells : List ℕ} {table : PlayingTable} {s : Latest} {at' n' m k : ℕ} → n' ≡ m
+pub renumbered : {t : List ℕ} {at n : ℕ} {c : Clock} {cells : List Micros} {table : PlayingTable} {s : Latest} {at' n' m k : ℕ} → n' ≡ m
     → OnsetsSoFar t at n c cells table s at' n' k → OnsetsSoFar t at n c cells table s at' m k
 renumbered {t} {at} {n} {c} {cells} {table} {s} {at'} {n'} {m} {k} e h =
     subst (λ (j : ℕ). OnsetsSoFar t at n c cells table s at' j k) e h
 
-module _ {t : List ℕ} {at n : ℕ} {c : Clock} {cells : List ℕ} {table : PlayingTable} {s : Latest} {at' n' k : ℕ}
+module _ {t : List ℕ} {at n : ℕ} {c : Clock} {cells : List Micros} {table : PlayingTable} {s : Latest} {at' n' k : ℕ}
     (h : OnsetsSoFar t at n c cells table s at' n' k) where
   abbrev timing : Timing
   timing = timing_in cells c
@@ -85,31 +89,33 @@ module _ {t : List ℕ} {at n : ℕ} {c : Clock} {cells : List ℕ} {table : Pla
   -- the bar of the last onset is that of its time's unit
   pub latest_in : LatestIn cells c s
   latest_in = let e = h.latest in ap (λ (x : Latest). x.bar) e ∙ ap (λ (x : Latest). bar_of (unit_in timing x.time.0)) (sym e)
-      -- another line is read
 
+  -- another line is read
   module _ (inside : at' < length t) (l : Line) (is : l ≡ line_read t at') where
     -- a bad one
     pub onsets_bad : (g : Grammar) → l.count ≡ 0 → (m : ℕ) → Stops g m
     onsets_bad g e m = h.rest g ∙ rest_bad t at' inside l is (in_onsets g tapped timing p h.last) n' h.numbered e m
 
     -- one that is well formed
-    module _ (filled : l.count ≡ 0 → ⊥) (r : OnsetStep)
-        (told : (d : List ℕ) → LineHeld l d → OnsetStepOf c.bars tapped timing k s d r) where
+    module _ (filled : l.count ≡ 0 → ⊥) where
       line_held : LineHeld l b
       line_held = rest_held t at' inside l is filled
 
-      stepped : (g : Grammar) → OnsetStepped g tapped timing p h.last b r
-      stepped g = told b line_held g p h.last h.good h.bars_are h.count h.latest
-
       -- and refused
-      pub onsets_stop : (g : Grammar) → (r.number ≡ 0 → ⊥) → Stops g r.number
-      onsets_stop g f =
-          h.rest g ∙ rest_stop t at' inside l is (in_onsets g tapped timing p h.last) n' r.number (stepped g).number f
+      pub onsets_stop : (g : Grammar) (e : Refusal) → ((d : List ℕ) → LineHeld l d → OnsetStepOf c.bars tapped timing k s d (Err e))
+          → Stops g (number_of e)
+      onsets_stop g e told =
+          h.rest g
+          ∙ rest_stop t at' inside l is (in_onsets g tapped timing p h.last) n' (number_of e)
+          (told b line_held g p h.last h.good h.bars_are h.count h.latest) (number_some e)
 
       -- or taken
-      module _ (z : r.number ≡ 0) where
+      module _ (r : OnsetStep) (told : (d : List ℕ) → LineHeld l d → OnsetStepOf c.bars tapped timing k s d (Ok r)) where
+        added : (g : Grammar) → OnsetAdded g tapped timing p h.last b r
+        added g = told b line_held g p h.last h.good h.bars_are h.count h.latest
+
         met : onset_refusal timing p h.last b ≡ 0
-        met = (onset_line no_grammar tapped timing p h.last b (sym (stepped no_grammar).number ∙ z)).1
+        met = (onset_line no_grammar tapped timing p h.last b (sym (added no_grammar).number)).1
 
         pub onsets_room : k < 512
         onsets_room = let m = (onset_passed timing p h.last b met).room in omega (arith, h.count)
@@ -118,7 +124,7 @@ module _ {t : List ℕ} {at n : ℕ} {c : Clock} {cells : List ℕ} {table : Pla
             → read_rest (in_onsets g tapped timing p h.last) n' (drop at' t)
             ≡ read_rest (in_onsets g tapped timing (with_onset p (onset_of timing b)) (four b 1)) (n' + 1) (drop l.next t)
         unfolding after
-        onward g = rest_on t at' inside l is (in_onsets g tapped timing p h.last) n' filled (sym (stepped g).number ∙ z)
+        onward g = rest_on t at' inside l is (in_onsets g tapped timing p h.last) n' filled (sym (added g).number)
 
         pub onsets_more : (pitch : ℕ) → ((d : List ℕ) → LineHeld l d → pitch ≡ byte d 5) → (table' : PlayingTable)
             → table' ≡ record {
@@ -131,7 +137,7 @@ module _ {t : List ℕ} {at n : ℕ} {c : Clock} {cells : List ℕ} {table : Pla
         unfolding onset_of with_onset
         onsets_more pitch pitch-is table' e =
             let o = onset_of timing b in
-            let unit = (stepped no_grammar).unit z in
+            let unit = (added no_grammar).unit in
             let next = line_next t at' l is filled in
             let m = line_size_pos t at' inside in
             record {
@@ -143,7 +149,7 @@ module _ {t : List ℕ} {at n : ℕ} {c : Clock} {cells : List ℕ} {table : Pla
               table_is =
                   e ∙ onset_stored p table o k r.unit _ h.table_is h.count onsets_room (λ j. units (unit j))
                   (pitch-is b line_held);
-              latest = (stepped no_grammar).latest z;
+              latest = (added no_grammar).latest;
               within = le_trans (le_of_eq next) (line_within t at' (omega arith));
               line = omega (arith, h.line, next);
               numbered = omega arith;
@@ -165,32 +171,8 @@ module _ {t : List ℕ} {at n : ℕ} {c : Clock} {cells : List ℕ} {table : Pla
         h.rest g ∙ rest_past (in_onsets g tapped timing p h.last) n' t at' past
         ∙ end_with g tapped timing p h.last n' (λ e. f (h.count ∙ e))
 
-  -- and what is returned then
-  module _ (past : length t ≤ at') (g : Grammar) where
-    pub take_done : (k ≡ 0 → ⊥) → (r : Take) → r.number ≡ 0 → r.playing ≡ table → r.timing ≡ timing_table timing
-        → TakeRead t (read_rest (in_onsets g tapped timing (no_playing c.bars) 0) n (drop at t)) g r
-    take_done f r z e time =
-        record {
-          stop = λ no. absurd (no z);
-          place = λ no. absurd (no z);
-          done = λ _.
-              record {
-                playing = p;
-                timing = timing;
-                table = e ∙ h.table_is;
-                timing_table_lem = time;
-                sheet = onsets_done past g f;
-              };
-        }
-
--- what is returned where a line is bad or refused, or none is left
-pub take_refused : {t : List ℕ} {o : Outcome TimedSheet} {g : Grammar} {number line at : ℕ} (r : Take)
-    → (r.number ≡ number) × (r.line ≡ line) × (r.at ≡ at) → (number ≡ 0 → ⊥) → line ≤ at + 1
-    → o ≡ stopped number line (drop at t)
-    → TakeRead t o g r
-take_refused {t} r q f place e =
-    record {
-      stop = λ _. e ∙ (λ j. stopped (sym q.0 j) (sym q.1 j) (drop (sym q.2 j) t));
-      place = λ _. rw (q.1, q.2) place;
-      done = λ z. absurd (f (sym q.0 ∙ z));
-    }
+    -- and what is returned then
+    pub take_done : (k ≡ 0 → ⊥) → (r : Take) → r.playing ≡ table → r.timing ≡ timing_table timing
+        → TakeDone (read_rest (in_onsets g tapped timing (no_playing c.bars) 0) n (drop at t)) g r
+    take_done f r e time =
+        record { playing = p; timing = timing; table = e ∙ h.table_is; timing_table_lem = time; sheet = onsets_done f }

@@ -2,8 +2,10 @@
 -- onsets needs. Assumes nothing.
 use Prim.Native.Nat.{ℕ, ◌+◌, ◌<◌, ◌≤◌}
 use mathlib.Core.Path.{◌≡◌, refl, sym, ap, ◌∙◌}
-use mathlib.Core.Bool.{Bool, true, false, cond, ◌&&◌}
+use mathlib.Core.Bool.{Bool, cond}
 use mathlib.Core.List.{List, [], ◌∷◌}
+use Rattle.std.proofs.Common.{Result, Ok, Err}
+use Rattle.sheet.specs.declared.refusal.Refusal.{Refusal}
 use native.Mathlib.Omega.{arith}
 use native.Mathlib.Decide.{ℕ_discrete}
 use lib.ListN.{length}
@@ -65,25 +67,11 @@ run_more timing p l =
     in_bar_more (bar_of (unit_in timing (four l 1))) p.onsets (onset_of timing l)
     ∙ simp (eq-eqb (bar_of (unit_in timing (four l 1))) (bar_of (unit_in timing (four l 1))) refl)
 
--- a line of another kind is refused: its number is of some line
-pub other_number : (tapped : Bool) (kind r : ℕ) → ((b : List ℕ) → kind ≡ byte b 0 → r ≡ other_refusal tapped b) → r ≡ 0 → ⊥
-unfolding other_refusal
-other_number tapped kind r is z = go (tapped && eqb kind 0x42) (sym (is (kind ∷ []) refl) ∙ z)
-  where
-    go : (c : Bool) → ◌≡◌ {A = ℕ} (cond c 17 3) 0 → ⊥
-    go true e = omega arith
-    go false e = omega arith
-
 module _ (g : Grammar) (tapped : Bool) (timing : Timing) (p : Playing) (last : ℕ) (l : List ℕ) where
   -- the refusal of a line of another kind
   pub other_line : (byte l 0 ≡ 0x4E → ⊥) → refusal (in_onsets g tapped timing p last) l ≡ other_refusal tapped l
   unfolding refusal
   other_line e = simp (ne_eqb (byte l 0) 0x4E e)
-
-  -- a step that is refused
-  pub step_stopped : (r : OnsetStep) (k : ℕ) → r.number ≡ k → refusal (in_onsets g tapped timing p last) l ≡ k → (k ≡ 0 → ⊥)
-      → OnsetStepped g tapped timing p last l r
-  step_stopped r k e q f = record { number = e ∙ sym q; unit = λ z. absurd (f (sym e ∙ z)); latest = λ z. absurd (f (sym e ∙ z)) }
 
   -- a `4E` line, whose form, moment and room are asked in this order
   module _ (kind : byte l 0 ≡ 0x4E) where
@@ -126,20 +114,30 @@ module _ (g : Grammar) (tapped : Bool) (timing : Timing) (p : Playing) (last : �
 
     -- a line of the right form, whose moment is not refused, by the room for it
     pub step_placed : byte l 0 ≡ 0x4E → onset_form l ≡ 0 → (t u : ℕ) → t ≡ four l 1
-        → moment_refusal bars timing s.time.0 t ≡ 0 → u ≡ unit_in timing t → (r : OnsetStep) → StepPlaced n s t u r
+        → moment_refusal bars timing s.time.0 t ≡ 0 → u ≡ unit_in timing t → (r : Result OnsetStep Refusal) → StepPlaced n s t u r
         → OnsetStepped g tapped timing p last l r
-    step_placed kind formed t u et met eu r h =
-        let here = here_is t u _ et met eu refl in
-        let unit = eu ∙ ap (unit_in timing) et in
-        record {
-          number =
-              h.number ∙ (λ j. room_refusal (en j) (here j)) ∙ sym (by_room kind formed (sym (moment_is t et) ∙ met));
-          unit = λ z. h.unit z ∙ unit;
-          latest = λ z.
-              h.latest z
-              ∙ (λ j. record {
-                time = micros (et j);
-                bar = bar_of (unit j);
-                run = (ap (λ (k : ℕ). k + 1) here ∙ sym (run_more timing p l)) j;
-              });
-        }
+    step_placed kind formed t u et met eu = go
+      where
+        here : run_in s.bar s.run (bar_of u) ≡ in_bar (bar_of (unit_in timing (four l 1))) p.onsets
+        here = here_is t u _ et met eu refl
+
+        unit : u ≡ unit_in timing (four l 1)
+        unit = eu ∙ ap (unit_in timing) et
+
+        room_is : room_refusal n (run_in s.bar s.run (bar_of u)) ≡ refusal (in_onsets g tapped timing p last) l
+        room_is = (λ j. room_refusal (en j) (here j)) ∙ sym (by_room kind formed (sym (moment_is t et) ∙ met))
+
+        go : (r : Result OnsetStep Refusal) → StepPlaced n s t u r → OnsetStepped g tapped timing p last l r
+        go (Ok r) h =
+            record {
+              number = h.number ∙ room_is;
+              unit = h.unit ∙ unit;
+              latest =
+                  h.latest
+                  ∙ (λ j. record {
+                    time = micros (et j);
+                    bar = bar_of (unit j);
+                    run = (ap (λ (k : ℕ). k + 1) here ∙ sym (run_more timing p l)) j;
+                  });
+            }
+        go (Err e) h = h ∙ room_is

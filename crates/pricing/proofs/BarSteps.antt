@@ -23,8 +23,8 @@ use Rattle.expansions.specs.Tables.{PackedRules, unit_cells}
 use Rattle.expansions.specs.Items.{interval}
 use Rattle.expansions.specs.Places.{first_zero}
 use Rattle.pricing.specs.declared.Progress.{Progress}
-use Rattle.pricing.specs.declared.Walk.{Walk}
-use Rattle.pricing.specs.declared.Walk.TheVariants.{Stuck, Upto}
+use Rattle.std.proofs.Common.{Option, Some, None}
+use Rattle.sheet.specs.Outcome.{accepted}
 use Rattle.pricing.specs.Pricing.{priced, no_tree, price_sheet, priced_of}
 use Rattle.pricing.specs.PricingLaws.{not_derived, carried_out_lem, all_derived, none_refused}
 use Rattle.pricing.specs.Clauses.{ForestPre, ForestWalked, unread, BarsWalked}
@@ -32,10 +32,10 @@ use Rattle.pricing.specs.Clauses.{ForestPre, ForestWalked, unread, BarsWalked}
 -- ---- how far the list was read
 
 module _ (s : Sheet) (list : List ℕ) where
-  pub not_read : BarsWalked s list Stuck → price_sheet s list ≡ no_tree
+  pub not_read : BarsWalked s list None → price_sheet s list ≡ no_tree
   not_read h = not_derived s list (stuck_all (instance_of s) (bars s) 0 list h)
 
-  module _ (p : Progress) (h : BarsWalked s list (Upto p)) where
+  module _ (p : Progress) (h : BarsWalked s list (Some p)) where
     pub rules_left : (p.at ≡ length list → ⊥) → price_sheet s list ≡ no_tree
     rules_left f =
         let k : p.at < length list = omega (arith, h.sized.in_list) in
@@ -56,9 +56,8 @@ module _ (s : Sheet) (list : List ℕ) where
         rw (h.weight, h.distance) (simp zero-add (all_derived s list h.price (all_read e) (sym h.carried ∙ z)))
 
     pub tree_answer : p.at ≡ length list → p.carried ≡ 0 → (nodes a : ℕ) → length list ≡ nodes → s.grammar.multiplier ≡ a
-        → record { number = 0; line = 0; nodes = nodes; weight = p.weight; distance = p.distance; total = a * p.weight + p.distance }
+        → accepted (record { nodes = nodes; weight = p.weight; distance = p.distance; total = a * p.weight + p.distance })
         ≡ priced_of (price_sheet s list)
-    unfolding priced_of
     tree_answer e z nodes a n k =
         sym (ap priced_of (tree_read e z) ∙ (λ i. priced_of (priced (n i) p.weight p.distance (k i * p.weight + p.distance))))
 
@@ -126,11 +125,11 @@ module _ {s : Sheet} {g : GrammarTable} {p : PlayingTable} (h : SheetHeld s g p)
             };
       }
 
-  pub bars_walked : (list kids : List ℕ) → kids ≡ take p.bars (replicate 64 g.start) → (w : Walk)
+  pub bars_walked : (list kids : List ℕ) → kids ≡ take p.bars (replicate 64 g.start) → (w : Option Progress)
       → ForestWalked s list kids (interval 0 20160) unread w → BarsWalked s list w
   unfolding bars
-  bars_walked list kids e Stuck t = rw (starts kids e) at t
-  bars_walked list kids e (Upto n) t = rw (starts kids e) at t.0
+  bars_walked list kids e None t = rw (starts kids e) at t
+  bars_walked list kids e (Some n) t = rw (starts kids e) at t.0
 
   pub multiplier_is : s.grammar.multiplier ≡ g.multiplier
   unfolding grammar_table

@@ -16,8 +16,7 @@ use Rattle.trees.specs.Instance.{instance_of}
 use Rattle.trees.proofs.Laws.{adjoining-append}
 use Rattle.expansions.specs.Items.{interval, first_at, item_of}
 use Rattle.pricing.specs.declared.Progress.{Progress}
-use Rattle.pricing.specs.declared.Walk.{Walk}
-use Rattle.pricing.specs.declared.Walk.TheVariants.{Stuck, Upto}
+use Rattle.std.proofs.Common.{Option, Some, None}
 use Rattle.pricing.specs.Clauses.{Sized, Passed, NotPassed, ItemPre, ItemWalked, ForestPre, ForestWalked}
 
 -- ---- reading on
@@ -65,7 +64,7 @@ module _ {s : Sheet} {cells children units list ks : List ℕ} {l n : ℕ} {a : 
   row_none = record { passed = passed_none a h.sized; from = h.from ∙ ap (first_at s) (omega arith) }
 
   pub row_all : (j : ℕ) (p : Progress) → InRow s list l n ks j a p → length ks ≤ j → j ≤ length ks
-      → ForestWalked s list ks (interval l n) a (Upto p)
+      → ForestWalked s list ks (interval l n) a (Some p)
   row_all j p i f g =
       let e : j ≡ length ks = omega arith in
       (subst (λ xs. Passed s list (adjoining l n xs) a p) (take_all j ks f) i.passed, i.from ∙ ap (λ x. first_at s (l + x * n)) e)
@@ -93,7 +92,7 @@ module _ {s : Sheet} {cells children units list ks : List ℕ} {l n : ℕ} {a : 
         ∙ ap (λ x. adjoining l n (take j ks) ++ adjoining x n (get_or ks j 0 ∷ drop (suc j) ks))
         (omega (arith, e, ap (λ x. x * n) (length-take-le j ks (omega arith))))
 
-    more_by : (q : Progress) → ItemWalked s list (get_or ks j 0) (interval left n) p (Upto q) → InRow s list l n ks (j + 1) a q
+    more_by : (q : Progress) → ItemWalked s list (get_or ks j 0) (interval left n) p (Some q) → InRow s list l n ks (j + 1) a q
     more_by q w =
         record {
           passed = subst (λ gs. Passed s list gs a q) (sym one_more) (passed_append _ _ a p q i.passed w.0);
@@ -107,7 +106,7 @@ module _ {s : Sheet} {cells children units list ks : List ℕ} {l n : ℕ} {a : 
             ∙ ap (λ x. adjoining l n (take j ks) ++ adjoining x n (get_or ks j 0 ∷ []))
             (omega (arith, e, ap (λ x. x * n) (length-take-le j ks (omega arith))))
 
-    stuck_by : ItemWalked s list (get_or ks j 0) (interval left n) p Stuck → ForestWalked s list ks (interval l n) a Stuck
+    stuck_by : ItemWalked s list (get_or ks j 0) (interval left n) p None → ForestWalked s list ks (interval l n) a None
     stuck_by w =
         subst (λ gs. NotPassed s list gs a) (sym in_three)
         (not_passed_append _ _ a p i.passed
@@ -115,11 +114,11 @@ module _ {s : Sheet} {cells children units list ks : List ℕ} {l n : ℕ} {a : 
         (drop p.at list) w))
 
     -- what the call for the next interval tells, by its result x
-    abbrev Told : Walk → Type 0
+    abbrev Told : Option Progress → Type 0
     Told x = ItemPre s cells children units list (interval left n) p → ItemWalked s list (get_or ks j 0) (interval left n) p x
 
-    pub row_more : (x : Walk) (q : Progress) → Told x → x ≡ Upto q → InRow s list l n ks (j + 1) a q
+    pub row_more : (x : Option Progress) (q : Progress) → Told x → x ≡ Some q → InRow s list l n ks (j + 1) a q
     row_more x q f e = more_by q (subst (ItemWalked s list (get_or ks j 0) (interval left n) p) e (f row_item))
 
-    pub row_stuck : (x : Walk) → Told x → x ≡ Stuck → ForestWalked s list ks (interval l n) a Stuck
+    pub row_stuck : (x : Option Progress) → Told x → x ≡ None → ForestWalked s list ks (interval l n) a None
     row_stuck x f e = stuck_by (subst (ItemWalked s list (get_or ks j 0) (interval left n) p) e (f row_item))

@@ -23,12 +23,11 @@ use Rattle.trees.specs.Expansions.{may_divide_lem, parts_whole}
 use Rattle.trees.proofs.Onsets.{early_late, own_distance_most, divided_long}
 use Rattle.expansions.specs.declared.Interval.{Interval}
 use Rattle.expansions.specs.declared.Expansion.{Expansion}
-use Rattle.expansions.specs.declared.Expansion.TheVariants.{Refused, Leaf, Division}
+use Rattle.expansions.specs.declared.Expansion.TheVariants.{Leaf, Division}
 use Rattle.expansions.specs.Items.{interval, first_at, item_of, At, LeafMade, DivisionMade, Expands}
 use Rattle.expansions.specs.Places.{first_next, first_most}
 use Rattle.pricing.specs.declared.Progress.{Progress}
-use Rattle.pricing.specs.declared.Walk.{Walk}
-use Rattle.pricing.specs.declared.Walk.TheVariants.{Stuck, Upto}
+use Rattle.std.proofs.Common.{Option, Some, None}
 use Rattle.pricing.specs.Clauses.{progress_behind, Room, NotPassed, ItemPre, ItemWalked, ForestPre, ForestWalked}
 
 -- the weights of a sheet's rules
@@ -77,24 +76,24 @@ module _ {s : Sheet} {cells children units list : List ℕ} {over : Interval} {p
     g = item_of q over
 
     -- what `expand` tells, by its result x
-    abbrev Told : Expansion → Type 0
+    abbrev Told : Option Expansion → Type 0
     Told x = At s cells units over p.from p.carried → Expands s g p.carried r x
 
-    told : (x y : Expansion) → x ≡ y → Told x → Expands s g p.carried r y
+    told : (x y : Option Expansion) → x ≡ y → Told x → Expands s g p.carried r y
     told x y e f = subst (Expands s g p.carried r) e (f item_at_lem)
 
-    pub leaf_told : {w e l d : ℕ} (x : Expansion) → x ≡ Leaf w e l d → Told x → LeafMade s g p.carried r w e l d
+    pub leaf_told : {w e l d : ℕ} (x : Option Expansion) → x ≡ Some (Leaf w e l d) → Told x → LeafMade s g p.carried r w e l d
     leaf_told x e f = told x _ e f
 
-    pub division_told : {w a : ℕ} (x : Expansion) → x ≡ Division w a → Told x → DivisionMade s g p.carried r w a
+    pub division_told : {w a : ℕ} (x : Option Expansion) → x ≡ Some (Division w a) → Told x → DivisionMade s g p.carried r w a
     division_told x e f = told x _ e f
 
     no_expansion : (instance_of s).expand g p.carried r ≡ none → NotPassed s list (g ∷ []) p
     no_expansion e = subst (λ xs. reading.Stuck (instance_of s) (g ∷ []) p.carried xs) (sym (front k))
         (stuck_rule (instance_of s) g p.carried r rest e)
 
-    pub rule_refused : (x : Expansion) → x ≡ Refused → Told x → NotPassed s list (g ∷ []) p
-    rule_refused x e f = no_expansion (told x Refused e f)
+    pub rule_refused : (x : Option Expansion) → x ≡ None → Told x → NotPassed s list (g ∷ []) p
+    rule_refused x e f = no_expansion (told x None e f)
 
     -- ---- a leaf
 
@@ -123,7 +122,7 @@ module _ {s : Sheet} {cells children units list : List ℕ} {over : Interval} {p
                 omega (arith, from_next, first_most s h.lent.onsets.good (over.left.0 + over.len.0), h.sized.distance, far);
           }
 
-      walked : ItemWalked s list q over p (Upto (progress_behind p (e + l) l w d))
+      walked : ItemWalked s list q over p (Some (progress_behind p (e + l) l w d))
       unfolding at_leaf
       walked = (
         record {
@@ -148,8 +147,8 @@ module _ {s : Sheet} {cells children units list : List ℕ} {over : Interval} {p
         from_next,
       )
 
-      pub leaf_walked : (b : Progress) → b ≡ progress_behind p (e + l) l w d → ItemWalked s list q over p (Upto b)
-      leaf_walked b f = subst (λ b. ItemWalked s list q over p (Upto b)) (sym f) walked
+      pub leaf_walked : (b : Progress) → b ≡ progress_behind p (e + l) l w d → ItemWalked s list q over p (Some b)
+      leaf_walked b f = subst (λ b. ItemWalked s list q over p (Some b)) (sym f) walked
 
     -- ---- a division
 
@@ -210,15 +209,15 @@ module _ {s : Sheet} {cells children units list : List ℕ} {over : Interval} {p
           → ForestPre s cells children units list kids (interval over.left.0 (over.len.0 / a)) n
       parts_entry kids n e f = rw (e, f) row_entry
 
-      division_walked : (x : Walk)
+      division_walked : (x : Option Progress)
           → ForestWalked s list m.parts (interval over.left.0 (over.len.0 / a)) (progress_behind p 0 p.carried w 0) x
           → ItemWalked s list q over p x
       unfolding at_division
-      division_walked Stuck t =
+      division_walked None t =
           subst (λ xs. reading.Stuck (instance_of s) (g ∷ []) p.carried xs) (sym (front k))
           (stuck_parts (instance_of s) g p.carried r rest
           (at_division g p.carried m.parts) m.expands (rw m.count at t))
-      division_walked (Upto n) (t, f) =
+      division_walked (Some n) (t, f) =
           let t' = rw m.count at t in (
             record {
               price = price_of ((instance_of s).weight r) (at_division g p.carried m.parts) ⊞ t'.price;
@@ -233,7 +232,7 @@ module _ {s : Sheet} {cells children units list : List ℕ} {over : Interval} {p
             f ∙ ap (first_at s) (omega (arith, parts_fall.1, ap (λ x. x * (over.len.0 / a)) m.count)),
           )
 
-      pub parts_walked : (kids : List ℕ) (n : Progress) → kids ≡ m.parts → n ≡ progress_behind p 0 p.carried w 0 → (x : Walk)
+      pub parts_walked : (kids : List ℕ) (n : Progress) → kids ≡ m.parts → n ≡ progress_behind p 0 p.carried w 0 → (x : Option Progress)
           → (ForestPre s cells children units list kids (interval over.left.0 (over.len.0 / a)) n
           → ForestWalked s list kids (interval over.left.0 (over.len.0 / a)) n x)
           → ItemWalked s list q over p x

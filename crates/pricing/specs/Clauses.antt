@@ -1,5 +1,5 @@
 -- What the functions of pricing are given, and what they give: how far a list is read, in the terms of `derivations`' `Reads`.
-use Rattle.std.specs.Prelude.{ℕ, ◌+◌, ◌*◌, ◌≤◌, ◌≡◌, List, [], ◌∷◌, map, length, drop}
+use Rattle.std.specs.Prelude.{ℕ, ◌+◌, ◌*◌, ◌≤◌, ◌≡◌, List, [], ◌∷◌, map, length, drop, Option, Some, None}
 use Rattle.sheet.specs.Sheet.{Sheet, bar_units}
 use Rattle.sheet.specs.Held.{parts_of, child_cells}
 use Rattle.derivations.specs.Derivation.{Item, Price}
@@ -12,8 +12,6 @@ use Rattle.expansions.specs.declared.Interval.{Interval}
 use Rattle.expansions.specs.Tables.{RulesHeld, UnitsHeld, last_unit}
 use Rattle.expansions.specs.Items.{first_at, item_of}
 use Rattle.pricing.specs.declared.Progress.{Progress}
-use Rattle.pricing.specs.declared.Walk.{Walk}
-use Rattle.pricing.specs.declared.Walk.TheVariants.{Stuck, Upto}
 
 -- the tables of a sheet, as they are lent
 pub record Lent (s : Sheet) (cells children units : List ℕ) : Type 0 where
@@ -70,9 +68,9 @@ pub record ItemPre (s : Sheet) (cells children units list : List ℕ) (over : In
   pub first : p.from ≡ first_at s over.left.0
   pub sized : Sized list p
 
-abbrev pub ItemWalked : Sheet → List ℕ → ℕ → Interval → Progress → Walk → Type 0
-ItemWalked s list q over p Stuck = NotPassed s list (item_of q over ∷ []) p
-ItemWalked s list q over p (Upto n) =
+abbrev pub ItemWalked : Sheet → List ℕ → ℕ → Interval → Progress → Option Progress → Type 0
+ItemWalked s list q over p None = NotPassed s list (item_of q over ∷ []) p
+ItemWalked s list q over p (Some n) =
     Passed s list (item_of q over ∷ []) p n × (n.from ≡ first_at s (over.left.0 + over.len.0))
 
 -- intervals in a row under the nonterminals `kids`, the first of them `first`
@@ -89,15 +87,15 @@ pub record ForestPre (s : Sheet) (cells children units list kids : List ℕ) (fi
   pub from : p.from ≡ first_at s first.left.0
   pub sized : Sized list p
 
-abbrev pub ForestWalked : Sheet → List ℕ → List ℕ → Interval → Progress → Walk → Type 0
-ForestWalked s list kids first p Stuck = NotPassed s list (row_of first kids) p
-ForestWalked s list kids first p (Upto n) = Passed s list (row_of first kids) p n × (n.from ≡ first_at s (end_of first kids))
+abbrev pub ForestWalked : Sheet → List ℕ → List ℕ → Interval → Progress → Option Progress → Type 0
+ForestWalked s list kids first p None = NotPassed s list (row_of first kids) p
+ForestWalked s list kids first p (Some n) = Passed s list (row_of first kids) p n × (n.from ≡ first_at s (end_of first kids))
 
 -- before the first rule
 abbrev pub unread : Progress
 unread = record { at = 0; from = 0; carried = 0; weight = 0; distance = 0 }
 
 -- all bars
-abbrev pub BarsWalked : Sheet → List ℕ → Walk → Type 0
-BarsWalked s list Stuck = NotPassed s list (bars s) unread
-BarsWalked s list (Upto n) = Passed s list (bars s) unread n
+abbrev pub BarsWalked : Sheet → List ℕ → Option Progress → Type 0
+BarsWalked s list None = NotPassed s list (bars s) unread
+BarsWalked s list (Some n) = Passed s list (bars s) unread n

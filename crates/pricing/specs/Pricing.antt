@@ -1,8 +1,10 @@
 -- Pricing, in the words of document 01's sections "Pricing, score lines, finding" and "When it says no".
-use Rattle.std.specs.Prelude.{ℕ, ◌≡◌, cond, List, eqb, length}
+use Rattle.std.specs.Prelude.{ℕ, ◌≡◌, cond, List, eqb, length, Result}
 use Rattle.std.proofs.Math.Option.{none, some}
 use Rattle.sheet.specs.Sheet.{Sheet}
-use Rattle.sheet.specs.Outcome.{Outcome, refused, accepted, number_in, line_in, value_in}
+use Rattle.sheet.specs.declared.refusal.Refused.{Refused}
+use Rattle.sheet.specs.Outcome.{Outcome, refused, accepted, value_in}
+use Rattle.sheet.specs.Refusal.{outcome_of, on_value}
 use Rattle.sheet.specs.Reading.{on_sheet}
 use Rattle.derivations.specs.Derivation.{derive}
 use Rattle.trees.specs.ValidTrees.{bars, total_of}
@@ -39,19 +41,25 @@ price_text text list = on_sheet text (λ s. price_sheet s list)
 abbrev pub no_figures : Figures
 no_figures = record { nodes = 0; weight = 0; distance = 0; total = 0 }
 
--- The struct of an outcome. "A refusal gives its number, the line [..] and zeros elsewhere"; "An accepted call gives number 0 and line 0
--- beside its result"
-unfoldable pub priced_of : Outcome Figures → answer.Priced
-priced_of o =
-    record {
-      number = number_in o;
-      line = line_in o;
-      nodes = (value_in no_figures o).nodes;
-      weight = (value_in no_figures o).weight;
-      distance = (value_in no_figures o).distance;
-      total = (value_in no_figures o).total;
-    }
+-- the figures as the code has them
+abbrev pub struct_of : Figures → answer.Priced
+struct_of f = record { nodes = f.nodes; weight = f.weight; distance = f.distance; total = f.total }
+
+-- an outcome over the code's struct
+abbrev pub priced_of : Outcome Figures → Outcome answer.Priced
+priced_of o = on_value struct_of o
+
+-- what is answered: figures, or a refusal
+abbrev pub Answer : Type 0
+Answer = Result answer.Priced Refused
+
+-- the figures of an outcome and of an answer; zeros in a refusal
+abbrev pub figures_of : Outcome answer.Priced → answer.Priced
+figures_of o = value_in (struct_of no_figures) o
+
+abbrev pub figures_in : Answer → answer.Priced
+figures_in r = figures_of (outcome_of r)
 
 -- the promise of `price`, for every text and every list
-abbrev pub Prices : (text list : List ℕ) → answer.Priced → Type 0
-Prices text list r = r ≡ priced_of (price_text text list)
+abbrev pub Prices : (text list : List ℕ) → Answer → Type 0
+Prices text list r = outcome_of r ≡ priced_of (price_text text list)

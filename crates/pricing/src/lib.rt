@@ -4,19 +4,19 @@
 ghost use Rattle.std.specs.Prelude.{◌≡◌, List, ℕ, length};
 ghost use Rattle.sheet.specs.Sheet.{Sheet};
 ghost use Rattle.sheet.specs.Accepted.{SheetHeld};
-ghost use Rattle.sheet.specs.Outcome as outcome;
+ghost use Rattle.sheet.specs.Refusal.{outcome_of};
 ghost use Rattle.pricing.specs.Pricing.{price_sheet, priced_of, Prices};
 ghost use Rattle.pricing.specs.Clauses.{Room, progress_behind, ItemPre, ItemWalked, ForestPre, ForestWalked, BarsWalked};
 
 use expansions::{Expansion, Interval, PackedRules, PackedUnits, expand, pack_rules, pack_units};
-use sheet::{BAR_UNITS, BARS_MOST, GrammarTable, PARTS_MOST, PlayingTable, Units};
+use sheet::{
+    BAR_UNITS, BARS_MOST, GrammarTable, PARTS_MOST, PlayingTable, Refusal, Refused, Units,
+};
 use sizes::ONSET_TREE_BYTES;
 
-// What pricing gives: a refusal with its number and its line, and zeros elsewhere; or number 0, line 0, node count, R, D and total.
+// What pricing gives of a valid tree: its node count, R, D and total.
 #[derive(Clone, Copy)]
 pub struct Priced {
-    pub number: u8,
-    pub line: usize,
     pub nodes: usize,
     pub weight: u64,
     pub distance: u64,
@@ -34,13 +34,6 @@ pub struct Progress {
     pub distance: u64,
 }
 
-// What reading an item's tree off a list gives: none is there, or how far the list is read behind it.
-#[derive(Clone, Copy)]
-pub enum Walk {
-    Stuck,
-    Upto(Progress),
-}
-
 // The progress behind a rule and the onsets that it passes.
 fn behind(p: Progress, passed: usize, carried: usize, weight: u64, distance: u64) -> Progress
     requires { Room p passed weight distance }
@@ -55,35 +48,34 @@ fn behind(p: Progress, passed: usize, carried: usize, weight: u64, distance: u64
     }
 }
 
-// Reads the tree of a nonterminal over an interval off the list.
+// Reads the tree of a nonterminal over an interval off the list: how far the list is read behind it; none where no tree is there.
 #[cycle(read_forest_read_tree)]
-fn read_tree<'a>(
-    rules: &'a PackedRules,
-    children: &'a [u8],
-    units: &'a PackedUnits,
-    list: &'a [u8],
+fn read_tree(
+    rules: &PackedRules,
+    children: &[u8],
+    units: &PackedUnits,
+    list: &[u8],
     nonterminal: u8,
     over: Interval,
     p: Progress,
-) -> Walk
+) -> Option<Progress>
     requires { (s : Sheet) × ItemPre s rules.now children.now units.now list.now over p }
     ensures { (s : Sheet) → ItemPre s rules.now children.now units.now list.now over p
         → ItemWalked s list.now nonterminal over p result }
 {
     let at = p.at;
     if list.len() <= at {
-        return Walk::Stuck;
+        return None;
     }
     let r = list[at];
-    let x = expand(rules, units, r, nonterminal, over, p.from, p.carried);
+    let x = expand(rules, units, r, nonterminal, over, p.from, p.carried)?;
     match x {
-        Expansion::Refused => Walk::Stuck,
         Expansion::Leaf {
             weight,
             early,
             late,
             distance,
-        } => Walk::Upto(behind(p, early + late, late, weight, distance)),
+        } => Some(behind(p, early + late, late, weight, distance)),
         Expansion::Division { weight, arity } => {
             let first = Interval {
                 left: Units(over.left.0),
@@ -99,15 +91,15 @@ fn read_tree<'a>(
 
 // Reads the trees of intervals in a row, each under its own nonterminal, off the list; `first` is the first of the intervals.
 #[cycle(read_forest_read_tree)]
-fn read_forest<'a>(
-    rules: &'a PackedRules,
-    children: &'a [u8],
-    units: &'a PackedUnits,
-    list: &'a [u8],
-    kids: &'a [u8],
+fn read_forest(
+    rules: &PackedRules,
+    children: &[u8],
+    units: &PackedUnits,
+    list: &[u8],
+    kids: &[u8],
     first: Interval,
     p: Progress,
-) -> Walk
+) -> Option<Progress>
     requires { (s : Sheet) × ForestPre s rules.now children.now units.now list.now kids.now first p }
     ensures { (s : Sheet)
         → ForestPre s rules.now children.now units.now list.now kids.now first p
@@ -116,77 +108,50 @@ fn read_forest<'a>(
     let len = first.len.0;
     let mut left = first.left.0;
     let mut next = p;
-    let mut j: usize = 0;
-    while j < kids.len() {
+    for &kid in kids {
         let part = Interval {
             left: Units(left),
             len: Units(len),
         };
-        let w = read_tree(rules, children, units, list, kids[j], part, next);
-        j += 1;
+        next = read_tree(rules, children, units, list, kid, part, next)?;
         left += len;
-        match w {
-            Walk::Stuck => {
-                return Walk::Stuck;
-            }
-            Walk::Upto(further) => {
-                next = further;
-            }
-        }
     }
-    Walk::Upto(next)
-}
-
-// A refusal's answer: its number and its line, and zeros elsewhere.
-pub fn refused(number: u8, line: usize) -> Priced
-    ensures { result ≡ priced_of (outcome.refused number line) }
-{
-    Priced {
-        number,
-        line,
-        nodes: 0,
-        weight: 0,
-        distance: 0,
-        total: 0,
-    }
+    Some(next)
 }
 
 // The price of a list of so many nodes by how far it was read: it is a tree where it was read to its end and nothing is carried out.
-fn price_of(w: Walk, nodes: usize, multiplier: u16) -> Priced
-    requires { (s : Sheet) × (list : List ℕ) × (BarsWalked s list w × (length list ≡ nodes)) }
-    ensures { (s : Sheet) (list : List ℕ) → BarsWalked s list w → length list ≡ nodes → s.grammar.multiplier ≡ multiplier
-        → result ≡ priced_of (price_sheet s list) }
+fn price_of(read: Option<Progress>, nodes: usize, multiplier: u16) -> Result<Priced, Refused>
+    requires { (s : Sheet) × (list : List ℕ) × (BarsWalked s list read × (length list ≡ nodes)) }
+    ensures { (s : Sheet) (list : List ℕ) → BarsWalked s list read → length list ≡ nodes → s.grammar.multiplier ≡ multiplier
+        → outcome_of result ≡ priced_of (price_sheet s list) }
 {
-    match w {
-        Walk::Stuck => refused(12, 0),
-        Walk::Upto(p) => {
-            if p.at != nodes {
-                return refused(12, 0);
-            }
-            if p.carried != 0 {
-                return refused(12, 0);
-            }
-            Priced {
-                number: 0,
-                line: 0,
-                nodes,
-                weight: p.weight,
-                distance: p.distance,
-                total: (multiplier as u64) * p.weight + p.distance,
-            }
-        }
+    let Some(p) = read else {
+        return Err(Refusal::NotATree.at(0));
+    };
+    if p.at != nodes || p.carried != 0 {
+        return Err(Refusal::NotATree.at(0));
     }
+    Ok(Priced {
+        nodes,
+        weight: p.weight,
+        distance: p.distance,
+        total: (multiplier as u64) * p.weight + p.distance,
+    })
 }
 
 // Prices a list against a sheet as it was read. A list longer than any tree of the sheet is not read.
-pub fn price_sheet(grammar: GrammarTable, playing: PlayingTable, list: &[u8]) -> Priced
+pub fn price_sheet(
+    grammar: GrammarTable,
+    playing: PlayingTable,
+    list: &[u8],
+) -> Result<Priced, Refused>
     requires { (s : Sheet) × SheetHeld s grammar playing }
-    ensures { (s : Sheet) → SheetHeld s grammar playing → result ≡ priced_of (price_sheet s list.now) }
+    ensures { (s : Sheet) → SheetHeld s grammar playing → outcome_of result ≡ priced_of (price_sheet s list.now) }
 {
     let nodes = list.len();
     let count = playing.bars as usize;
     if count + ONSET_TREE_BYTES * playing.count < nodes {
-        return refused(12, 0);
+        return Err(Refusal::NotATree.at(0));
     }
     let rules = pack_rules(grammar);
     let units = pack_units(playing);
@@ -202,7 +167,7 @@ pub fn price_sheet(grammar: GrammarTable, playing: PlayingTable, list: &[u8]) ->
         weight: 0,
         distance: 0,
     };
-    let w = read_forest(
+    let read = read_forest(
         &rules,
         &grammar.children,
         &units,
@@ -211,19 +176,13 @@ pub fn price_sheet(grammar: GrammarTable, playing: PlayingTable, list: &[u8]) ->
         bar,
         none,
     );
-    price_of(w, nodes, grammar.multiplier)
+    price_of(read, nodes, grammar.multiplier)
 }
 
 // Prices a list against the sheet that a text means.
-pub fn price(text: &[u8], list: &[u8]) -> Priced
+pub fn price(text: &[u8], list: &[u8]) -> Result<Priced, Refused>
     ensures { Prices text.now list.now result }
 {
-    let r = reading::read(text);
-    let number = r.number;
-    if number != 0 {
-        return refused(number, r.line);
-    }
-    let grammar = r.grammar;
-    let playing = r.playing;
-    price_sheet(grammar, playing, list)
+    let r = reading::read(text)?;
+    price_sheet(r.grammar, r.playing, list)
 }

@@ -2,7 +2,6 @@
 use Prim.Native.Nat.{ℕ, ◌<◌}
 use mathlib.Core.Path.{◌≡◌, refl, sym, ◌∙◌}
 use mathlib.Core.List.{List, [], ◌∷◌}
-use native.Mathlib.Decide.{ℕ_discrete}
 use native.Mathlib.Omega.{arith}
 use lib.ListN.{length, drop}
 use Rattle.hextext.specs.declared.line.Line.{Line}
@@ -24,35 +23,29 @@ pub record Taken (t : List ℕ) (l : Line) : Type 0 where
   pub good : GoodRules (head_of (line_bytes (drop 0 t)))
   pub on : read_rest nothing 1 t ≡ read_rest (in_rules (head_of (line_bytes (drop 0 t)))) 2 (drop l.next t)
 
--- where its number k is that of a bad line, or the line's own
-module _ (t : List ℕ) (some : 0 < length t) (l : Line) (is : l ≡ line_read t 0) (k : ℕ) (bad : l.count ≡ 0 → k ≡ 2)
-    (own : (l.count ≡ 0 → ⊥) → (b : List ℕ) → LineHeld l b → k ≡ refusal nothing b) where
-  first_held : (l.count ≡ 0 → ⊥) → LineHeld l (line_bytes (drop 0 t))
-  first_held = rest_held t 0 some l is
+-- a bad one, or one that is well formed, whose own number k is
+module _ (t : List ℕ) (some : 0 < length t) (l : Line) (is : l ≡ line_read t 0) where
+  pub first_bad : l.count ≡ 0 → (k : ℕ) → read_rest nothing 1 t ≡ stopped k 1 t
+  first_bad e k = rest_bad t 0 some l is nothing 1 (omega arith) e k
 
-  own_is : (l.count ≡ 0 → ⊥) → k ≡ refusal nothing (line_bytes (drop 0 t))
-  own_is filled = own filled _ (first_held filled)
+  module _ (filled : l.count ≡ 0 → ⊥) (k : ℕ) (own : (b : List ℕ) → LineHeld l b → k ≡ refusal nothing b) where
+    held : LineHeld l (line_bytes (drop 0 t))
+    held = rest_held t 0 some l is filled
 
-  pub first_refused : (k ≡ 0 → ⊥) → read_rest nothing 1 t ≡ stopped k 1 t
-  first_refused f = go (ℕ_discrete l.count 0)
-    where
-      go : Dec (l.count ≡ 0) → read_rest nothing 1 t ≡ stopped k 1 t
-      go (yes e) = rest_bad t 0 some l is nothing 1 (omega arith) e k
-      go (no filled) = rest_stop t 0 some l is nothing 1 k (own_is filled) f
+    pub first_refused : (k ≡ 0 → ⊥) → read_rest nothing 1 t ≡ stopped k 1 t
+    first_refused f = rest_stop t 0 some l is nothing 1 k (own _ held) f
 
-  pub first_taken : k ≡ 0 → Taken t l
-  unfolding after
-  first_taken none =
-      let b = line_bytes (drop 0 t) in
-      let filled : l.count ≡ 0 → ⊥ = λ e. let two : k ≡ 2 = bad e in omega (arith, two, none) in
-      let met = sym (own_is filled) ∙ none in
-      let held = first_held filled in
-      record {
-        filled = filled;
-        held = held;
-        good = good_after nothing b (line_small b held.small) tt met;
-        on = rest_on t 0 some l is nothing 1 filled met;
-      }
+    pub first_taken : k ≡ 0 → Taken t l
+    unfolding after
+    first_taken none =
+        let b = line_bytes (drop 0 t) in
+        let met = sym (own _ held) ∙ none in
+        record {
+          filled = filled;
+          held = held;
+          good = good_after nothing b (line_small b held.small) tt met;
+          on = rest_on t 0 some l is nothing 1 filled met;
+        }
 
 -- an empty text is bad at line 1
 pub empty_bad : (t : List ℕ) → length t ≡ 0 → read_sheet t ≡ refused 2 1

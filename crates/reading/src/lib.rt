@@ -2,113 +2,88 @@
 #![tactic(auto)]
 
 ghost use Rattle.std.specs.Prelude.{◌≡◌, List, ℕ, ◌+◌, ◌<◌, ◌≤◌, length, drop};
-ghost use Rattle.hextext.specs.Packed.{DigitTable};
 ghost use Rattle.sheet.specs.Outcome.{refused};
 ghost use Rattle.sheet.specs.Reading.{nothing, refusal};
-ghost use Rattle.sheet.specs.Rest.{read_rest, stopped};
-ghost use Rattle.sheet.specs.Held.{LineHeld, reading_of, Reads};
+ghost use Rattle.sheet.specs.Refusal.{number_of, test_number};
+ghost use Rattle.sheet.specs.Rest.{stopped};
+ghost use Rattle.sheet.specs.Held.{LineHeld, Reads};
+ghost use Rattle.reading.specs.Clauses.{LinesRead};
 
-use grammar::{head_of, head_refusal, no_grammar, read_rules};
-use hextext::{Digits, Line, bad_from, digit_table, line_at};
-use playing::{even_playing, no_onsets, no_timing, read_playing};
-use sheet::{Reading, TEXT_MOST};
+use grammar::{check_head, head_of, read_rules};
+use hextext::{Digits, Line, bad_from, line_at};
+use playing::{Take, even_playing, read_playing};
+use sheet::{Kind, Reading, Refusal, Refused, Stop, TEXT_MOST};
 
-fn refused_at(number: u8, line: usize) -> Reading
-    ensures { result ≡ reading_of (refused number line) }
+// The refusal of a text that reading stops at: a bad line there or behind it goes before.
+fn refused_at(digits: &Digits, text: &[u8], stop: Stop) -> Refused
+    requires { (stop.line ≤ stop.at + 1) × (0 < stop.line) }
+    ensures { refused (number_of result.refusal) result.line ≡ stopped (number_of stop.refusal) stop.line (drop stop.at text.now) }
 {
-    let grammar = no_grammar();
-    let timing = no_timing();
-    let playing = no_onsets(0);
-    Reading {
-        number,
-        line,
-        timing,
-        grammar,
-        playing,
+    match bad_from(digits, text, stop.at, stop.line) {
+        Some(line) => Refusal::BadLine.at(line),
+        None => stop.refusal.at(stop.line),
     }
 }
 
-// A refusal at line `line`, which starts at place `at`: a bad line there or behind it goes before.
-fn stopped_at(digits: &Digits, text: &[u8], at: usize, line: usize, number: u8) -> Reading
-    requires { DigitTable digits.now × (line ≤ at + 1) }
-    ensures { result ≡ reading_of (stopped number line (drop at text.now)) }
+// Whether a text's first line, which is no bad one, is refused.
+fn check_first(l: Line) -> Result<(), Refusal>
+    ensures { (b : List ℕ) → LineHeld l b → test_number result ≡ refusal nothing b }
 {
-    let bad = bad_from(digits, text, at, line);
-    if bad != 0 {
-        return refused_at(2, bad);
+    if l.kind != Kind::Grammar as u8 {
+        return Err(Refusal::KindOutOfOrder);
     }
-    refused_at(number, line)
+    check_head(l)
 }
 
-// The refusal of a text's first line, which has no bytes where it is a bad one; 0: none.
-fn first_refusal(l: Line) -> u8
-    ensures { (l.count ≡ 0 → result ≡ 2) × ((l.count ≡ 0 → ⊥) → (b : List ℕ) → LineHeld l b → result ≡ refusal nothing b) }
+// The lines of a text, one after another. Most sheets are read by `even_playing`.
+fn read_lines(digits: &Digits, text: &[u8]) -> Result<Reading, Stop>
+    requires { 0 < length text.now }
+    ensures { LinesRead text.now result }
 {
-    if l.count == 0 {
-        return 2;
+    let Some(head) = line_at(digits, text, 0) else {
+        return Err(Stop {
+            refusal: Refusal::BadLine,
+            line: 1,
+            at: 0,
+        });
+    };
+    if let Err(refusal) = check_first(head) {
+        return Err(Stop {
+            refusal,
+            line: 1,
+            at: 0,
+        });
     }
-    if l.kind != 0x47 {
-        return 3;
+    let rules = read_rules(digits, text, head.next, 2, head_of(head))?;
+    // The result is made apart for each: where the two ways join, the tables are copied once more.
+    if let Some(take) = even_playing(digits, text, rules.at, rules.end) {
+        return Ok(Reading {
+            timing: take.timing,
+            grammar: rules.grammar,
+            playing: take.playing,
+        });
     }
-    head_refusal(l)
-}
-
-// The lines of a text, one after another.
-fn read_lines(digits: &Digits, text: &[u8]) -> Reading
-    requires { DigitTable digits.now × (0 < length text.now) }
-    ensures { result ≡ reading_of (read_rest nothing 1 text.now) }
-{
-    let head = line_at(digits, text, 0);
-    let head_number = first_refusal(head);
-    if head_number != 0 {
-        return stopped_at(digits, text, 0, 1, head_number);
-    }
-    let rules = read_rules(digits, text, head.next, 2, head_of(head));
-    let rules_number = rules.number;
-    if rules_number != 0 {
-        return stopped_at(digits, text, rules.at, rules.line, rules_number);
-    }
-    // Most sheets are read by this loop. Both ways end in a reading of their own: joined, they would be copied.
-    let even = even_playing(digits, text, rules.at, rules.end);
-    if even.number == 0 {
-        let grammar = rules.grammar;
-        let timing = even.timing;
-        let playing = even.playing;
-        return Reading {
-            number: 0,
-            line: 0,
-            timing,
-            grammar,
-            playing,
-        };
-    }
-    let take = read_playing(digits, text, rules.at, rules.line, rules.end);
-    let take_number = take.number;
-    if take_number != 0 {
-        return stopped_at(digits, text, take.at, take.line, take_number);
-    }
-    let grammar = rules.grammar;
-    let timing = take.timing;
-    let playing = take.playing;
-    Reading {
-        number: 0,
-        line: 0,
-        timing,
-        grammar,
-        playing,
-    }
+    let take = read_playing(digits, text, rules.at, rules.line, rules.end)?;
+    Ok(Reading {
+        timing: take.timing,
+        grammar: rules.grammar,
+        playing: take.playing,
+    })
 }
 
 // The meaning of a text as a sheet, or its refusal.
-pub fn read(text: &[u8]) -> Reading
+pub fn read(text: &[u8]) -> Result<Reading, Refused>
     ensures { Reads text.now result }
 {
     if TEXT_MOST < text.len() {
-        return refused_at(1, 0);
+        return Err(Refusal::TextTooLong.at(0));
     }
     if text.len() == 0 {
-        return refused_at(2, 1);
+        return Err(Refusal::BadLine.at(1));
     }
-    let digits = digit_table();
-    read_lines(&digits, text)
+    let digits = Digits::new();
+    match read_lines(&digits, text) {
+        Ok(reading) => Ok(reading),
+        Err(stop) => Err(refused_at(&digits, text, stop)),
+    }
 }

@@ -3,37 +3,19 @@
 #![tactic(auto)]
 
 use case_text::{behind, place_of, print, read_full};
-use sheet::{BAR_LINES_MOST, ONSETS_MOST, PlayingTable, Reading, TimingTable};
+use sheet::{BAR_LINES_MOST, ONSETS_MOST, PlayingTable, Reading, Refused, TimingTable};
 use std::io;
-
-fn wide(b: u8) -> u64 {
-    b as u64
-}
-
-// From one moment to the next; 0 where that is below.
-fn length(a: u64, b: u64) -> u64 {
-    if b < a {
-        return 0;
-    }
-    b - a
-}
 
 // The moment at place i of a timing; 0 past its places.
 fn moment_at(timing: TimingTable, i: usize) -> u64 {
-    if BAR_LINES_MOST <= i {
-        return 0;
-    }
-    let moment = timing.lines[i];
-    moment.0 as u64
+    timing.lines.get(i).map_or(0, |moment| u64::from(moment.0))
 }
 
 // The first four bar lines and the last, each with the length of its bar. The last has none: the place behind it holds 0.
 fn print_bar_lines(rt: &impl Print, bars: u8, timing: TimingTable) -> io::Result<()> {
-    let last = bars as usize;
-    let mut i: usize = 0;
-    while i < BAR_LINES_MOST {
-        let shown = i < 4 || i == last;
-        if i <= last && shown {
+    let last = usize::from(bars);
+    for i in 0..(last + 1).min(BAR_LINES_MOST) {
+        if i < 4 || i == last {
             let moment = moment_at(timing, i);
             let next = moment_at(timing, i + 1);
             print(
@@ -41,72 +23,81 @@ fn print_bar_lines(rt: &impl Print, bars: u8, timing: TimingTable) -> io::Result
                 b"\n  bar line: place, moment, length",
                 i as u64,
                 moment,
-                length(moment, next),
+                next.saturating_sub(moment),
             )?;
         }
-        i += 1;
     }
     Ok(())
 }
 
 // The first four onsets and the last.
 fn print_onsets(rt: &impl Print, p: PlayingTable) -> io::Result<()> {
-    let count = p.count;
-    let mut i: usize = 0;
-    while i < ONSETS_MOST {
-        let shown = i < 4 || i + 1 == count;
-        if i < count && shown {
-            let unit = p.units[i];
+    for i in 0..p.count.min(ONSETS_MOST) {
+        if i < 4 || i + 1 == p.count {
             print(
                 rt,
                 b"\n  onset: place, unit, pitch",
                 i as u64,
-                unit.0 as u64,
-                wide(p.pitches[i]),
+                u64::from(p.units[i].0),
+                u64::from(p.pitches[i]),
             )?;
         }
-        i += 1;
     }
     Ok(())
 }
 
-fn print_outcome(rt: &impl Print, r: Reading) -> io::Result<()> {
-    let grammar = r.grammar;
-    let playing = r.playing;
-    let timing = r.timing;
-    let number = r.number;
-    let bars = playing.bars;
+// A refused text, with zeros where an accepted one has its figures.
+fn print_refused(rt: &impl Print, e: Refused) -> io::Result<()> {
     print(
         rt,
         b"\n  number, line, last bar line",
-        number as u64,
-        r.line as u64,
-        moment_at(timing, bars as usize),
+        u64::from(e.refusal.number()),
+        e.line as u64,
+        0,
+    )?;
+    rt.write_all(b"; nonterminals, start, multiplier 0 0 0; rules, bars, onsets 0 0 0\n")
+}
+
+fn print_accepted(rt: &impl Print, r: Reading) -> io::Result<()> {
+    let grammar = r.grammar;
+    let playing = r.playing;
+    print(
+        rt,
+        b"\n  number, line, last bar line",
+        0,
+        0,
+        moment_at(r.timing, usize::from(playing.bars)),
     )?;
     print(
         rt,
         b"; nonterminals, start, multiplier",
-        grammar.nonterminals as u64,
-        grammar.start as u64,
-        grammar.multiplier as u64,
+        u64::from(grammar.nonterminals),
+        u64::from(grammar.start),
+        u64::from(grammar.multiplier),
     )?;
     print(
         rt,
         b"; rules, bars, onsets",
         grammar.count as u64,
-        bars as u64,
+        u64::from(playing.bars),
         playing.count as u64,
     )?;
-    if number == 0 {
-        print_bar_lines(rt, bars, timing)?;
-    }
+    print_bar_lines(rt, playing.bars, r.timing)?;
     print_onsets(rt, playing)?;
     rt.write_all(b"\n")
+}
+
+fn print_outcome(rt: &impl Print, r: Result<Reading, Refused>) -> io::Result<()> {
+    match r {
+        Ok(reading) => print_accepted(rt, reading),
+        Err(e) => print_refused(rt, e),
+    }
 }
 
 // Each text of the input.
 fn run(rt: &impl Print, s: &[u8]) -> io::Result<()> {
     let mut at = place_of(s, 0, b'#');
+    // No `for`: a round takes one case, of any length.
     while at < s.len() {
         let end = place_of(s, at, b'\n');
         let start = behind(s, end);

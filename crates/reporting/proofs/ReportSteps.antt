@@ -3,22 +3,23 @@
 -- nothing.
 use Prim.Native.Nat.{ℕ, ◌≤◌, ◌<◌}
 use mathlib.Core.Path.{◌≡◌, refl, sym, ap, subst, ◌∙◌}
-use mathlib.Core.List.{List, [], ◌∷◌}
+use mathlib.Core.List.{List, [], ◌∷◌, ◌++◌}
 use native.Mathlib.Decide.{dec_le, dec_lt}
 use native.Mathlib.Omega.{arith}
-use borrow.Author.Tests.{le-leb, lt-leb}
-use lib.ListN.{length, take, replicate, length-replicate}
-use lib.Seq.{length-take-le, take_all, take-take}
-use Rattle.slices.specs.Over.{over, over_from, over_nil, over_back, take-over}
+use lib.ListN.{length, take, drop, replicate}
+use lib.Seq.{length-take-le, take_all, take_at}
+use Rattle.slices.specs.Over.{over, over_from, over_nil, over_back, over-drop}
 use Rattle.hextext.specs.Written.{line_text, pairs_of, has_room, LineWritten}
 use Rattle.hextext.specs.Fields.{big_endian}
 use Rattle.sheet.specs.declared.table.GrammarTable.{GrammarTable}
 use Rattle.sheet.specs.declared.table.PlayingTable.{PlayingTable}
 use Rattle.sheet.specs.declared.table.Reading.{Reading}
 use Rattle.sheet.specs.Sheet.{Sheet}
-use Rattle.sheet.specs.Reading.{read_sheet}
-use Rattle.sheet.specs.Held.{reading_of}
-use Rattle.sheet.specs.Outcome.{Outcome, refused, accepted}
+use Rattle.sheet.specs.Held.{Reads}
+use Rattle.std.proofs.Common.{Result, Ok, Err}
+use Rattle.sheet.specs.declared.refusal.Refused.{Refused}
+use Rattle.sheet.specs.Outcome.{Outcome, refused, accepted, number_in, line_in, accepted_value, accepted_not_refused}
+use Rattle.sheet.specs.Refusal.{number_of, outcome_of, number_some}
 use Rattle.sheet.specs.Accepted.{SheetHeld}
 use Rattle.sheet.proofs.AcceptedLaws.{on_refused, on_held}
 use Rattle.trees.specs.ValidTrees.{total_of}
@@ -26,7 +27,6 @@ use Rattle.trees.specs.Room.{tree_most}
 use Rattle.trees.proofs.Theorems.{nodes_most}
 use Rattle.pricing.specs.declared.Priced.{Priced}
 use Rattle.pricing.specs.PricingLaws.{tree_priced}
-use Rattle.score.specs.declared.Written.{Written}
 use Rattle.score.specs.Score.{tree_text}
 use Rattle.score.specs.Writing.{no_room, text_within, write_priced, write_sheet, written_of, score_after}
 use Rattle.score.specs.Clauses.{PricedPre}
@@ -68,27 +68,27 @@ refused_page : (k n : ℕ) {score line lineAfter : List ℕ} {r : Shown} → r �
 unfolding score_after
 refused_page k n q e = prints (refused k n) tt q refl e
 
-module _ {s : Sheet} {g : GrammarTable} {p : PlayingTable} (h : SheetHeld s g p) {tree treeAfter work workAfter : List ℕ} {x : Priced}
-    (f : Gives (find_sheet s (length tree) (length work)) tree treeAfter work workAfter x) where
+module _ {s : Sheet} {g : GrammarTable} {p : PlayingTable} (h : SheetHeld s g p) {tree treeAfter work workAfter : List ℕ} where
   -- a refusal of finding
-  pub refusal_reported : (x.number ≡ 0 → ⊥) → (score line lineAfter : List ℕ) → lineAfter ≡ refusal_line x.number x.line → (r : Shown)
+  pub refusal_reported : (d : Refused) → Gives (find_sheet s (length tree) (length work)) tree treeAfter work workAfter (Err d)
+      → (score line lineAfter : List ℕ) → lineAfter ≡ refusal_line (number_of d.refusal) d.line → (r : Shown)
       → r ≡ Line → Printed (find_sheet s (length tree) (length work)) tree (restored r (take tree_most tree) treeAfter) work workAfter
       score score line lineAfter r
-  refusal_reported nz score line lineAfter e r q = go (find_sheet s (length tree) (length work)) f
+  refusal_reported d f score line lineAfter e r q = go (find_sheet s (length tree) (length work)) f
     where
-      page : (k n : ℕ) → x.number ≡ k → x.line ≡ n → Prints (refused k n) score score line lineAfter r
+      page : (k n : ℕ) → number_of d.refusal ≡ k → d.line ≡ n → Prints (refused k n) score score line lineAfter r
       page k n a b = refused_page k n q (rw (← a, ← b) e)
 
-      go : (o : Outcome Search) → Gives o tree treeAfter work workAfter x
+      go : (o : Outcome Search) → Gives o tree treeAfter work workAfter (Err d)
           → Printed o tree (restored r (take tree_most tree) treeAfter) work workAfter score score line lineAfter r
       go (refused k n) g = (page k n g.number g.line, kept_back g.result.0.tree_kept r q, g.result.1)
       go (accepted (no_tree s)) g = (page 11 0 g.number g.line, kept_back g.result.0.tree_kept r q, g.result.1)
-      go (accepted (found s)) g = absurd (nz g.number)
+      go (accepted (found s)) g = absurd (number_some d.refusal g.number)
 
   -- a tree
-  module _ (z : x.number ≡ 0) where
-    abbrev back : TreeHandedBack s tree treeAfter work workAfter x
-    back = tree_handed_back s h.good f z
+  module _ (x : Priced) (f : Gives (find_sheet s (length tree) (length work)) tree treeAfter work workAfter (Ok x)) where
+    abbrev back : TreeHandedBack s tree treeAfter work workAfter (Ok x)
+    back = tree_handed_back s h.good f refl
 
     pub nodes_within : x.nodes ≤ length treeAfter
     nodes_within = back.within
@@ -99,7 +99,7 @@ module _ {s : Sheet} {g : GrammarTable} {p : PlayingTable} (h : SheetHeld s g p)
     abbrev bytes : List ℕ
     bytes = take x.nodes treeAfter
 
-    pub priced_pre : PricedPre s g p bytes x
+    pub priced_pre : PricedPre s g p bytes (Ok x)
     priced_pre = record { held = h; own = back.own }
 
     abbrev lines : List ℕ
@@ -114,8 +114,8 @@ module _ {s : Sheet} {g : GrammarTable} {p : PlayingTable} (h : SheetHeld s g p)
     unfolding write_sheet
     wrote room = ap (write_priced s bytes room) (tree_priced s bytes _ _ back.first.tree.valid)
 
-    module _ (score scoreOut : List ℕ) (w : Written)
-        (told : (w ≡ written_of (write_sheet s bytes (length score)))
+    module _ (score scoreOut : List ℕ) (w : Result ℕ Refused)
+        (told : (outcome_of w ≡ written_of (write_sheet s bytes (length score)))
         × (scoreOut ≡ score_after (write_sheet s bytes (length score)) score)) where
       abbrev room : ℕ
       room = length score
@@ -127,7 +127,7 @@ module _ {s : Sheet} {g : GrammarTable} {p : PlayingTable} (h : SheetHeld s g p)
         | no h ↦ let l : room < length lines = omega arith in rw (within_short room lines l) short
       ]
 
-      wrote_so : (w ≡ written_of (text_within room lines)) × (scoreOut ≡ score_after (text_within room lines) score)
+      wrote_so : (outcome_of w ≡ written_of (text_within room lines)) × (scoreOut ≡ score_after (text_within room lines) score)
       wrote_so = rw (sym (wrote room)) told
 
       abbrev Answers : Outcome (List ℕ) → (line lineAfter : List ℕ) → Shown → Type 0
@@ -157,51 +157,51 @@ module _ {s : Sheet} {g : GrammarTable} {p : PlayingTable} (h : SheetHeld s g p)
           )
 
       -- the score slice is short
-      pub short_reported : (w.number ≡ 0 → ⊥) → (line lineAfter : List ℕ) → lineAfter ≡ refusal_line w.number w.line → (r : Shown)
-          → r ≡ Line → Reported line lineAfter r
-      unfolding written_of score_after
-      short_reported nz line lineAfter e r q =
+      pub short_reported : (d : Refused) → w ≡ Err d → (line lineAfter : List ℕ) → lineAfter ≡ refusal_line (number_of d.refusal) d.line
+          → (r : Shown) → r ≡ Line → Reported line lineAfter r
+      unfolding score_after
+      short_reported d is line lineAfter e r q =
           whole line lineAfter r
-          (by_room (λ o. w ≡ written_of o → scoreOut ≡ score_after o score → Answers o line lineAfter r)
-          (λ h a b. absurd (nz (ap (λ (v : Written). v.number) a)))
+          (by_room (λ o. refused (number_of d.refusal) d.line ≡ written_of o → scoreOut ≡ score_after o score → Answers o line lineAfter r)
+          (λ h a b. absurd (accepted_not_refused (sym a)))
           (λ a b. (
             put_back bytes few back.written r q,
-            prints (refused 13 0) tt q b (e ∙ ap (λ (v : Written). refusal_line v.number v.line) a),
+            prints (refused 13 0) tt q b (e ∙ ap (λ (o : Outcome ℕ). refusal_line (number_in o) (line_in o)) a),
           ))
-          wrote_so.0 wrote_so.1)
+          (sym (ap outcome_of is) ∙ wrote_so.0) wrote_so.1)
 
       -- the score lines
-      pub score_reported : w.number ≡ 0 → (line : List ℕ) (r : Shown) → r ≡ Score w.bytes → Reported line line r
-      unfolding written_of score_after
-      score_reported zw line r q =
+      pub score_reported : (n : ℕ) → w ≡ Ok n → (line : List ℕ) (r : Shown) → r ≡ Score n → Reported line line r
+      unfolding score_after
+      score_reported n is line r q =
           whole line line r
-          (by_room (λ o. w ≡ written_of o → scoreOut ≡ score_after o score → Answers o line line r)
-          (λ h a b. (rw q back.written, prints (accepted lines) h (q ∙ ap (λ (v : Written). Score v.bytes) a) b refl))
-          (λ a b. let e : ◌≡◌ {A = ℕ} 0 13 = sym zw ∙ ap (λ (v : Written). v.number) a in let f : ⊥ = omega arith in absurd f)
-          wrote_so.0 wrote_so.1)
+          (by_room (λ o. accepted n ≡ written_of o → scoreOut ≡ score_after o score → Answers o line line r)
+          (λ h a b. (rw q back.written, prints (accepted lines) h (q ∙ ap Score (accepted_value a)) b refl))
+          (λ a b. absurd (accepted_not_refused a))
+          (sym (ap outcome_of is) ∙ wrote_so.0) wrote_so.1)
 
 -- ---- `compose`
 
-module _ (text tree work score line lineAfter : List ℕ) (x : Reading) (e : x ≡ reading_of (read_sheet text)) (r : Shown) where
+module _ (text tree work score line lineAfter : List ℕ) (r : Shown) where
   -- a text that is refused
-  pub text_refused : (x.number ≡ 0 → ⊥) → r ≡ Line → lineAfter ≡ refusal_line x.number x.line
+  pub text_refused : (d : Refused) → Reads text (Err d) → r ≡ Line → lineAfter ≡ refusal_line (number_of d.refusal) d.line
       → Reports text tree (restored r (take tree_most tree) tree) work work score score line lineAfter r
   unfolding find_text
-  text_refused nz q l = record {
+  text_refused d e q l = record {
     is = subst (λ (o : Outcome Search). Printed o tree (restored r (take tree_most tree) tree) work work score score line lineAfter r)
-        (sym (on_refused text x e (λ s. find_sheet s (length tree) (length work)) nz))
-        (refused_page x.number x.line q l, kept_back refl r q, refl);
+        (sym (on_refused text (λ s. find_sheet s (length tree) (length work)) d e))
+        (refused_page (number_of d.refusal) d.line q l, kept_back refl r q, refl);
   }
 
   -- a text that means a sheet
-  pub text_reported : (treeAfter workAfter score_after : List ℕ) → x.number ≡ 0
+  pub text_reported : (x : Reading) → Reads text (Ok x) → (treeAfter workAfter score_after : List ℕ)
       → ((s : Sheet) → SheetHeld s x.grammar x.playing
       → Printed (find_sheet s (length tree) (length work)) tree treeAfter work workAfter score score_after line lineAfter r)
       → Reports text tree treeAfter work workAfter score score_after line lineAfter r
   unfolding find_text
-  text_reported treeAfter workAfter score_after z f = record {
-    is = on_held text x e (λ s. find_sheet s (length tree) (length work))
-        (λ (o : Outcome Search). Printed o tree treeAfter work workAfter score score_after line lineAfter r) z f;
+  text_reported x e treeAfter workAfter score_after f = record {
+    is = on_held text (λ s. find_sheet s (length tree) (length work))
+        (λ (o : Outcome Search). Printed o tree treeAfter work workAfter score score_after line lineAfter r) x e f;
   }
 
 -- ---- `report`
@@ -213,30 +213,24 @@ front_whole n xs h e = elim (dec_lt n tree_most) [
   | no l ↦ let same : n ≡ tree_most = omega arith in rw same refl
 ]
 
--- what was copied aside of a slice is its front
-copied_aside : (n : ℕ) (tree kept : List ℕ) → n ≤ length tree → n ≤ tree_most → (n < tree_most → n ≡ length tree)
-    → kept ≡ over (take n (take n tree)) (replicate tree_most 0) → take n kept ≡ take tree_most tree
-copied_aside n tree kept fits h e k =
-    rw k (
-    ap (λ (m : ℕ). take m (over (take n (take n tree)) (replicate tree_most 0))) (sym short)
-    ∙ take-over (take n (take n tree)) (replicate tree_most 0) (omega (arith, short, h, length-replicate {A = ℕ} tree_most 0))
-    ∙ take-take n n tree (omega arith)
-    ∙ front_whole n tree h e
-    )
-  where
-    short : length (take n (take n tree)) ≡ n
-    short = rw (take-take n n tree (omega arith)) (length-take-le n tree fits)
+-- a list copied over the front of a slice of at least its length
+pub copied_over : (n : ℕ) (bs xs : List ℕ) → length bs ≡ n → n ≤ length xs → bs ++ drop n xs ≡ over bs xs
+copied_over n bs xs e h =
+    ap (λ (k : ℕ). bs ++ drop k xs) (sym e) ∙ sym (over-drop bs xs (omega arith))
 
--- there is room aside for the front of a slice
-pub aside_room : (n : ℕ) (tree : List ℕ) → n ≤ length tree → n ≤ tree_most
-    → (n ≤ length (take n tree)) × (n ≤ length (replicate {A = ℕ} tree_most 0))
-aside_room n tree fits h = (omega (arith, length-take-le n tree fits), omega (arith, h, length-replicate {A = ℕ} tree_most 0))
+-- what was copied aside of a slice is its front
+copied_aside : (n : ℕ) (tree part zeros : List ℕ) → n ≤ length tree → n ≤ tree_most → (n < tree_most → n ≡ length tree)
+    → part ≡ take n tree → take n (part ++ drop n zeros) ≡ take tree_most tree
+copied_aside n tree part zeros fits h e k =
+    take_at part (drop n zeros) n (ap length k ∙ length-take-le n tree fits) ∙ k ∙ front_whole n tree h e
 
 -- the answer of `compose`, with the tree slice restored
-pub reported : (between : List ℕ) {text tree treeAfter work workAfter score score_after line lineAfter kept : List ℕ} {n : ℕ} {r : Shown}
-    → n ≤ length tree → n ≤ tree_most → (n < tree_most → n ≡ length tree) → kept ≡ over (take n (take n tree)) (replicate tree_most 0)
+pub reported : (between zeros : List ℕ) {text tree treeAfter work workAfter score score_after line lineAfter part : List ℕ} {n : ℕ}
+    {r : Shown} → n ≤ length tree → n ≤ tree_most → (n < tree_most → n ≡ length tree) → part ≡ take n tree
     → Reports text tree (restored r (take tree_most tree) between) work workAfter score score_after line lineAfter r
-    → treeAfter ≡ restored r (take n kept) between → Reports text tree treeAfter work workAfter score score_after line lineAfter r
-reported between {text} {tree} {treeAfter} {work} {workAfter} {score} {score_after} {line} {lineAfter} {kept} {n} {r} fits h e k given a =
+    → treeAfter ≡ restored r (take n (part ++ drop n zeros)) between
+    → Reports text tree treeAfter work workAfter score score_after line lineAfter r
+reported between zeros {text} {tree} {treeAfter} {work} {workAfter} {score} {score_after} {line} {lineAfter} {part} {n} {r}
+    fits h e k given a =
     subst (λ (t : List ℕ). Reports text tree t work workAfter score score_after line lineAfter r)
-    (sym (a ∙ ap (λ (front : List ℕ). restored r front between) (copied_aside n tree kept fits h e k))) given
+    (sym (a ∙ ap (λ (front : List ℕ). restored r front between) (copied_aside n tree part zeros fits h e k))) given

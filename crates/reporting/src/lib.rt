@@ -13,8 +13,7 @@ ghost use Rattle.reporting.specs.Restoring.{restored};
 use finding::find_sheet;
 use hextext::put_field;
 use score::write_priced;
-use search::copy;
-use sheet::{GrammarTable, PlayingTable};
+use sheet::{GrammarTable, Kind, PlayingTable};
 pub use sizes::TREE_BYTES_MOST;
 
 // The bytes of a refusal's line: four as pairs, and 0A.
@@ -39,7 +38,7 @@ pub enum Shown {
 fn refusal_line(number: u8, line: usize) -> RefusalLine
     ensures { result ≡ refusal_line number line }
 {
-    let mut bytes = [0x52, number, 0, 0];
+    let mut bytes = [Kind::Refused as u8, number, 0, 0];
     put_field(&mut bytes, 2, 2, line as u64);
     let mut cells = [0u8; REFUSAL_LINE_BYTES];
     hextext::write_line(&bytes, &mut cells, 0);
@@ -70,19 +69,13 @@ fn compose_sheet(
         tree.old (restored result (take tree_most tree.old) tree.new)
         work.old work.new score.old score.new line.old line.new result }
 {
-    let found = find_sheet(grammar, playing, tree, work);
-    let number = found.number;
-    if number != 0 {
-        return refuse(number, found.line, line);
-    }
-    let nodes = found.nodes;
-    let written = write_priced(grammar, playing, &tree[..nodes], found, score);
-    let short = written.number;
-    if short != 0 {
-        return refuse(short, written.line, line);
-    }
-    Shown::Score {
-        bytes: written.bytes,
+    let found = match find_sheet(grammar, playing, tree, work) {
+        Ok(found) => found,
+        Err(e) => return refuse(e.refusal.number(), e.line, line),
+    };
+    match write_priced(grammar, playing, &tree[..found.nodes], Ok(found), score) {
+        Ok(bytes) => Shown::Score { bytes },
+        Err(short) => refuse(short.refusal.number(), short.line, line),
     }
 }
 
@@ -97,24 +90,10 @@ fn compose(
     ensures { Reports text.now tree.old (restored result (take tree_most tree.old) tree.new)
         work.old work.new score.old score.new line.old line.new result }
 {
-    let r = reading::read(text);
-    let number = r.number;
-    if number != 0 {
-        return refuse(number, r.line, line);
+    match reading::read(text) {
+        Ok(r) => compose_sheet(r.grammar, r.playing, work, tree, score, line),
+        Err(e) => refuse(e.refusal.number(), e.line, line),
     }
-    let grammar = r.grammar;
-    let playing = r.playing;
-    compose_sheet(grammar, playing, work, tree, score, line)
-}
-
-// How many bytes of a slice of this length a tree can be written over.
-fn front(size: usize) -> usize
-    ensures { (result ≤ size) × (result ≤ tree_most) × (result < tree_most → result ≡ size) }
-{
-    if size < TREE_BYTES_MOST {
-        return size;
-    }
-    TREE_BYTES_MOST
 }
 
 // Puts the first n bytes back that were kept of the tree slice, where a refusal is shown.
@@ -122,11 +101,8 @@ fn restore(shown: Shown, kept: &[u8; TREE_BYTES_MOST], tree: &mut [u8], n: usize
     requires { (n ≤ tree_most) × (n ≤ length tree.old) }
     ensures { tree.new ≡ restored shown (take n kept.now) tree.old }
 {
-    match shown {
-        Shown::Score { bytes: _ } => {}
-        Shown::Line => {
-            copy(kept, tree, n);
-        }
+    if let Shown::Line = shown {
+        tree[..n].copy_from_slice(&kept[..n]);
     }
 }
 
@@ -144,8 +120,8 @@ pub fn report(
         score.old score.new line.old line.new result }
 {
     let mut kept = [0u8; TREE_BYTES_MOST];
-    let n = front(tree.len());
-    copy(&tree[..n], &mut kept, n);
+    let n = tree.len().min(TREE_BYTES_MOST);
+    kept[..n].copy_from_slice(&tree[..n]);
     let shown = compose(text, work, tree, score, line);
     restore(shown, &kept, tree, n);
     shown

@@ -1,24 +1,23 @@
 -- What the functions that solve rows with one onset ask of each other and tell each other.
 use Rattle.std.specs.Prelude.{ℕ, ◌+◌, ◌-◌, ◌*◌, ◌/◌, ◌%◌, ◌≤◌, ◌<◌, min, ◌≡◌, refl, List, length, get_or}
 use Rattle.std.proofs.Common.{sym, ap, subst, ◌∙◌, arith}
-use Rattle.std.proofs.Math.Option.{some}
 use Rattle.std.proofs.Math.Decide.{dec_lt}
 use Rattle.slices.specs.Lookup.{some_below}
 use Rattle.sheet.specs.declared.clock.Units.{Units}
-use Rattle.sheet.specs.Sheet.{division, Sheet}
+use Rattle.sheet.specs.Sheet.{Sheet}
 use Rattle.sheet.specs.Good.{GoodRules, GoodOnsets}
 use Rattle.sheet.specs.Held.{units}
 use Rattle.derivations.specs.Derivation.{Item}
-use Rattle.trees.specs.ValidTrees.{rule_at, token}
+use Rattle.trees.specs.ValidTrees.{token}
 use Rattle.trees.specs.Instance.{onsets_in}
 use Rattle.trees.specs.LeastTotal.{NONE, cell_of}
 use Rattle.expansions.specs.Tables.{last_unit}
 use Rattle.expansions.specs.Items.{first_at}
 use Rattle.expansions.specs.Places.{first_most, first_next}
-use Rattle.plan.specs.Plan.{Prepared, rule_count, length_at, length_cell, leaf_cell, child_cell, way_cell, WaysOf, Divides}
+use Rattle.plan.specs.Plan.{Prepared, rule_count, length_at, length_cell, leaf_cell, child_cell, Divides}
 use Rattle.plan.specs.Layout.{kinds}
 use Rattle.plan.specs.Packed.{packed_leaf}
-use Rattle.plan.specs.PlanLaws.{lengths_most, length_positive, child_at, straight_most, crossed_most, onward_most}
+use Rattle.plan.specs.PlanLaws.{lengths_most, length_positive, child_at}
 use Rattle.rows.specs.declared.slots.Bar.{Bar}
 use Rattle.rows.specs.declared.one.Pair.{Pair}
 use Rattle.rows.specs.VectorLaws.{four}
@@ -33,7 +32,7 @@ use Rattle.rows.specs.PackedTurnLaws.{packed_to, packed_none}
 use Rattle.rows.specs.TurnLaws.{Ruled, row_cells_low}
 use Rattle.rows.specs.CallLaws.{PlaceOf}
 use Rattle.rows.specs.OnePartLaws.{OneAt, one_onset, one_unit, one_at, one_first}
-use Rattle.rows.specs.OneTurnLaws.{part_at, one_more_zero, one_more_one, packed_one_none, packed_to_none}
+use Rattle.rows.specs.OneTurnLaws.{part_at, packed_one_none, packed_to_none}
 use Rattle.rows.specs.OneTurnLaws.{leaf_one_early, leaf_one_late}
 use Rattle.rows.specs.One.{pair_row, by_way, AloneEntry, OnePart, OneEntry, LeafOne, WayEntry, Comes, OneRule}
 use Rattle.rows.specs.WayLaws.{way_comes}

@@ -1,5 +1,5 @@
 -- `solve` goes over the divisions of its nonterminal, place after place, and asks `parts` of each. Assumes nothing.
-use Rattle.std.specs.Prelude.{ℕ, ◌+◌, ◌≤◌, ◌<◌, ◌≡◌, refl, List}
+use Rattle.std.specs.Prelude.{ℕ, ◌+◌, ◌≤◌, ◌<◌, ◌≡◌, refl, List, Option}
 use Rattle.std.proofs.Common.{sym, subst, mul-le-mul_right, arith}
 use Rattle.sheet.specs.declared.clock.Units.{Units}
 use Rattle.sheet.specs.Sheet.{Sheet}
@@ -52,8 +52,8 @@ module _ {s : Sheet} {plan units rows : List ℕ} {bar : Bar} {q l : ℕ} {left 
         pub rule_below : rule < 64
         rule_below = omega (arith, is, place_below prepared head done.passed.begun less_last, prepared.good.most)
 
-        pub split_told : {x : Split} → SplitAt s q l (rule_in plan n) x → SplitAt s q l rule x
-        split_told {x} = subst (λ (r : ℕ). SplitAt s q l r x) (sym is)
+        pub split_told : (x : Option Split) → SplitAt s q l (rule_in plan n) x → SplitAt s q l rule x
+        split_told x = subst (λ (r : ℕ). SplitAt s q l r x) (sym is)
 
         pub rules_here : Ruled s now (item_at s q l left) c rule o
         rules_here =

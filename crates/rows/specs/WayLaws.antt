@@ -11,7 +11,7 @@ use Rattle.trees.proofs.RoomLaws.{good_division}
 use Rattle.plan.specs.Plan.{Prepared, length_at, way_cell, WaysOf, Divides}
 use Rattle.plan.specs.PlanLaws.{straight_most, crossed_most, onward_most}
 use Rattle.rows.specs.declared.one.Pair.{Pair}
-use Rattle.rows.specs.Slots.{item_at, Inhabited}
+use Rattle.rows.specs.Slots.{Inhabited}
 use Rattle.rows.specs.OnePartLaws.{OneAt}
 use Rattle.rows.specs.OneTurnLaws.{part_at, one_more_zero, one_more_one}
 use Rattle.rows.specs.One.{by_way, WayEntry, Comes}

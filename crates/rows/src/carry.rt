@@ -24,12 +24,7 @@ pub fn idle_at(plan: &Plan, zero: u64, a: u64, c: usize, before: usize) -> bool
     if c == 0 {
         return false;
     }
-    if zero + saved(plan, c) < a {
-        if before != 0 {
-            return true;
-        }
-    }
-    false
+    zero + saved(plan, c) < a && before != 0
 }
 
 // The same of a vector.

@@ -8,14 +8,14 @@ ghost use Rattle.rows.specs.Vectors.{vec};
 ghost use Rattle.rows.specs.PackedLaws.{packed_leaf_total};
 ghost use Rattle.rows.specs.Rows.{LeafEntry};
 
-use crate::vector::{NO_CELL, least};
+use crate::vector::NO_CELL;
 use expansions::{Interval, PackedUnits, place, token_of};
 use plan::{Plan, leaf_cell, least_leaf};
 
 // The packed cells of a leaf over an interval, by carry state behind it. More than three late onsets are no carry state.
-pub fn leaf_row<'a>(
-    plan: &'a Plan,
-    units: &'a PackedUnits,
+pub fn leaf_row(
+    plan: &Plan,
+    units: &PackedUnits,
     q: usize,
     over: Interval,
     from: usize,
@@ -29,7 +29,7 @@ pub fn leaf_row<'a>(
     let late = placed.late;
     let kind = token_of(c + placed.early, from);
     let w = leaf_cell(plan, q, kind as usize);
-    let x = least(NO_CELL, w + 64 * placed.distance);
+    let x = NO_CELL.min(w + 64 * placed.distance);
     let mut o = [NO_CELL; 4];
     if late < 4 {
         o[late] = x;

@@ -11,7 +11,7 @@ ghost use Rattle.rows.specs.TurnLaws.{Ruled};
 ghost use Rattle.rows.specs.One.{pair_row, by_way, AloneEntry, OnePart, OneEntry, LeafOne, WayEntry, OneRule};
 
 use crate::slots::{Bar, held, load, place_of, store};
-use crate::vector::{NO_CELL, least};
+use crate::vector::NO_CELL;
 use expansions::{PackedUnits, token_of};
 use plan::{
     Plan, child, first_division, last_division, leaf_cell, length, rule_at_place, split_at_place,
@@ -27,29 +27,16 @@ pub struct Pair {
 }
 
 // Whether nothing is carried in, the onset at place `from` is the only one inside, and it is not the first of the piece.
-pub fn alone<'a>(
-    plan: &'a Plan,
-    units: &'a PackedUnits,
-    l: usize,
-    left: Units,
-    from: usize,
-    c: usize,
-) -> bool
+pub fn alone(plan: &Plan, units: &PackedUnits, l: usize, left: Units, from: usize, c: usize) -> bool
     requires { (s : Sheet) × AloneEntry s plan.now units.now l left from }
     ensures { (s : Sheet) → AloneEntry s plan.now units.now l left from → result ≡ true
         → (c ≡ 0) × (0 < from) × (onsets_in s left.0 (length_at s l) ≡ 1) }
 {
-    if c != 0 {
-        return false;
-    }
-    if from == 0 {
+    if c != 0 || from == 0 {
         return false;
     }
     let len = length(plan, l);
-    if left.0 + len.0 <= units[from + 1] {
-        return true;
-    }
-    false
+    left.0 + len.0 <= units[from + 1]
 }
 
 // A leaf of nonterminal q, with an onset before it, whose only onset is d behind its left bound.
@@ -61,7 +48,7 @@ pub fn leaf_one(plan: &Plan, q: usize, len: Units, d: Units) -> Pair
     if 2 * d.0 < n {
         let kind = token_of(1, 1);
         let w = leaf_cell(plan, q, kind as usize);
-        let x = least(NO_CELL, w + 64 * (d.0 as u64));
+        let x = NO_CELL.min(w + 64 * u64::from(d.0));
         return Pair {
             zero: x,
             one: NO_CELL,
@@ -69,7 +56,7 @@ pub fn leaf_one(plan: &Plan, q: usize, len: Units, d: Units) -> Pair
     }
     let kind = token_of(0, 1);
     let w = leaf_cell(plan, q, kind as usize);
-    let x = least(NO_CELL, w + 64 * ((n - d.0) as u64));
+    let x = NO_CELL.min(w + 64 * u64::from(n - d.0));
     Pair {
         zero: NO_CELL,
         one: x,
@@ -83,16 +70,16 @@ pub fn by_way(plan: &Plan, r: usize, j: usize, y: Pair) -> Pair
 {
     let zero = y.zero / 64 * 64;
     let one = y.one / 64 * 64;
-    let a = least(zero + way(plan, r, j, 0), one + way(plan, r, j, 1));
+    let a = (zero + way(plan, r, j, 0)).min(one + way(plan, r, j, 1));
     let b = one + way(plan, r, j, 2);
     Pair { zero: a, one: b }
 }
 
 // Solves the row of an item with one onset inside and one before it, from carry state 0, and stores it at its place.
 #[cycle(part_one_rule_one_solve_one)]
-pub fn solve_one<'a>(
-    plan: &'a Plan,
-    units: &'a PackedUnits,
+pub fn solve_one(
+    plan: &Plan,
+    units: &PackedUnits,
     rows: &mut [u64],
     bar: Bar,
     q: usize,
@@ -107,19 +94,14 @@ pub fn solve_one<'a>(
 {
     let len = length(plan, l);
     let d = units[from] - left.0;
-    let last = last_division(plan, q);
     let leaf = leaf_one(plan, q, len, Units(d));
     let mut zero = leaf.zero;
     let mut one = leaf.one;
-    let mut n = first_division(plan, q);
-    while n < last {
+    for n in first_division(plan, q)..last_division(plan, q) {
         let rule = rule_at_place(plan, n);
-        let split = split_at_place(plan, l, n);
-        n += 1;
-        let k = split.arity;
-        let h = split.part;
-        if k != 0 {
+        if let Some(split) = split_at_place(plan, l, n) {
             let best = Pair { zero, one };
+            let h = split.part;
             let y = rule_one(plan, units, rows, bar, rule, h, left, from, Units(d), best);
             zero = y.zero;
             one = y.one;
@@ -136,9 +118,9 @@ pub fn solve_one<'a>(
 
 // One rule more of an item whose only onset is d behind its left bound: rule r, with parts of the length with index l.
 #[cycle(part_one_rule_one_solve_one)]
-fn rule_one<'a>(
-    plan: &'a Plan,
-    units: &'a PackedUnits,
+fn rule_one(
+    plan: &Plan,
+    units: &PackedUnits,
     rows: &mut [u64],
     bar: Bar,
     r: usize,
@@ -160,16 +142,16 @@ fn rule_one<'a>(
     let y = part_one(plan, units, rows, bar, q, l, Units(lo), from);
     let x = by_way(plan, r, part, y);
     Pair {
-        zero: least(best.zero, x.zero),
-        one: least(best.one, x.one),
+        zero: best.zero.min(x.zero),
+        one: best.one.min(x.one),
     }
 }
 
 // Cells 0 and 1 of the row of a part with one onset inside and one before it, from carry state 0.
 #[cycle(part_one_rule_one_solve_one)]
-fn part_one<'a>(
-    plan: &'a Plan,
-    units: &'a PackedUnits,
+fn part_one(
+    plan: &Plan,
+    units: &PackedUnits,
     rows: &mut [u64],
     bar: Bar,
     q: usize,

@@ -63,6 +63,7 @@ pub fn first_behind(units: &PackedUnits, from: usize, right: Units) -> usize
 {
     let end = right.0;
     let mut i = from;
+    // No `for`: the place behind the last onset holds the end of the piece, so no bound is tested.
     while units[i] < end {
         i += 1;
     }

@@ -11,15 +11,15 @@ use crate::slots::{Bar, first_behind, held, load, place_of, store};
 use crate::vector::{NO_CELL, NONE, dot, only_at, relax, relax_rule, totals};
 use expansions::{Interval, PackedUnits, token_of};
 use plan::{
-    Plan, child, cost, first_division, last_division, leaf_cell, length, rule_at_place,
+    Plan, Split, child, cost, first_division, last_division, leaf_cell, length, rule_at_place,
     split_at_place,
 };
 use sheet::Units;
 
 // The row of an item from carry state c. Without an onset inside it is a leaf of what is carried in, and nothing is carried on.
-pub fn cells<'a>(
-    plan: &'a Plan,
-    units: &'a PackedUnits,
+pub fn cells(
+    plan: &Plan,
+    units: &PackedUnits,
     rows: &mut [u64],
     bar: Bar,
     q: usize,
@@ -47,9 +47,9 @@ pub fn cells<'a>(
 // Solves the row of an item with an onset inside: the short way where it is the only one, not the first of the piece, and nothing is
 // carried in.
 #[cycle(fresh_lift_part_parts_solve)]
-fn fresh<'a>(
-    plan: &'a Plan,
-    units: &'a PackedUnits,
+fn fresh(
+    plan: &Plan,
+    units: &PackedUnits,
     rows: &mut [u64],
     bar: Bar,
     q: usize,
@@ -72,9 +72,9 @@ fn fresh<'a>(
 
 // Solves the row of an item with an onset inside, and stores it at its place. Only the divisions of its nonterminal are met.
 #[cycle(fresh_lift_part_parts_solve)]
-fn solve<'a>(
-    plan: &'a Plan,
-    units: &'a PackedUnits,
+fn solve(
+    plan: &Plan,
+    units: &PackedUnits,
     rows: &mut [u64],
     bar: Bar,
     q: usize,
@@ -89,20 +89,14 @@ fn solve<'a>(
         → Row s rows.new (item_at s q l left) c result }
 {
     let over = Interval {
-        left: Units(left.0),
+        left,
         len: length(plan, l),
     };
-    let last = last_division(plan, q);
     let mut best = leaf_row(plan, units, q, over, from, c);
-    let mut n = first_division(plan, q);
-    while n < last {
+    for n in first_division(plan, q)..last_division(plan, q) {
         let rule = rule_at_place(plan, n);
-        let split = split_at_place(plan, l, n);
-        n += 1;
-        let k = split.arity;
-        let h = split.part;
-        if k != 0 {
-            let v = parts(plan, units, rows, bar, rule, 0, k, h, left, from, c);
+        if let Some(Split { arity, part }) = split_at_place(plan, l, n) {
+            let v = parts(plan, units, rows, bar, rule, 0, arity, part, left, from, c);
             let y = relax_rule(best, cost(plan, rule), rule as u64, v);
             best = y;
         }
@@ -113,9 +107,9 @@ fn solve<'a>(
 
 // What the parts of rule r total from part i on, which begins at `left`, from carry state c to each: k parts of the length with index l.
 #[cycle(fresh_lift_part_parts_solve)]
-pub fn parts<'a>(
-    plan: &'a Plan,
-    units: &'a PackedUnits,
+pub fn parts(
+    plan: &Plan,
+    units: &PackedUnits,
     rows: &mut [u64],
     bar: Bar,
     r: usize,
@@ -134,8 +128,7 @@ pub fn parts<'a>(
     let mut v = only_at(c);
     let mut at = from;
     let mut lo = left.0;
-    let mut j = i;
-    while j < k {
+    for j in i..k {
         let q = child(plan, r, j);
         let end = lo + len.0;
         let to = first_behind(units, at, Units(end));
@@ -143,7 +136,6 @@ pub fn parts<'a>(
         v = w;
         at = to;
         lo = end;
-        j += 1;
     }
     v
 }
@@ -151,9 +143,9 @@ pub fn parts<'a>(
 // The vector v, taken over one part; `to` is the place of the first onset behind it. The totals to the carry states move up one by one, so
 // that none is looked up by its index.
 #[cycle(fresh_lift_part_parts_solve)]
-fn part<'a>(
-    plan: &'a Plan,
-    units: &'a PackedUnits,
+fn part(
+    plan: &Plan,
+    units: &PackedUnits,
     rows: &mut [u64],
     bar: Bar,
     q: usize,
@@ -183,23 +175,21 @@ fn part<'a>(
     let mut b = v[1];
     let mut d = v[2];
     let e = v[3];
-    let mut c: usize = 0;
-    while c < n {
+    for c in 0..n {
         let w = lift(plan, units, rows, bar, q, l, left, from, zero, a, c, o);
         o = w;
         a = b;
         b = d;
         d = e;
-        c += 1;
     }
     o
 }
 
 // One carry state more of a part with an onset inside, where `zero` and `a` are the totals to 0 and to c; an idle one is left out.
 #[cycle(fresh_lift_part_parts_solve)]
-fn lift<'a>(
-    plan: &'a Plan,
-    units: &'a PackedUnits,
+fn lift(
+    plan: &Plan,
+    units: &PackedUnits,
     rows: &mut [u64],
     bar: Bar,
     q: usize,

@@ -1,18 +1,11 @@
 // Vectors of four numbers, by carry state: totals, or packed cells, which are 64 × a total + the first rule that comes to it. NONE stands
 // for "no tree": it is above every total, and two of them fit, packed too.
-ghost use Rattle.std.specs.Prelude.{◌≡◌, ◌+◌, ◌≤◌, ◌<◌, min, get_or};
+ghost use Rattle.std.specs.Prelude.{◌≡◌, ◌+◌, ◌≤◌, ◌<◌, get_or};
 ghost use Rattle.derivations.specs.Minima.{lowest, only};
 ghost use Rattle.trees.specs.LeastTotal.{NONE};
 ghost use Rattle.rows.specs.Vectors.{vec, Low, lowered, totals_of, lowered_by};
 
 pub use plan::{NO_CELL, NONE};
-
-// The smaller of two numbers.
-pub fn least(a: u64, b: u64) -> u64
-    ensures { result ≡ min a b }
-{
-    if a < b { a } else { b }
-}
 
 // 0 at carry state c, and NONE at every other.
 pub fn only_at(c: usize) -> [u64; 4]
@@ -31,10 +24,10 @@ pub fn relax(o: [u64; 4], a: u64, y: [u64; 4]) -> [u64; 4]
     ensures { result ≡ lowered o a y }
 {
     [
-        least(o[0], a + y[0]),
-        least(o[1], a + y[1]),
-        least(o[2], a + y[2]),
-        least(o[3], a + y[3]),
+        o[0].min(a + y[0]),
+        o[1].min(a + y[1]),
+        o[2].min(a + y[2]),
+        o[3].min(a + y[3]),
     ]
 }
 
@@ -44,10 +37,10 @@ pub fn relax_rule(o: [u64; 4], a: u64, r: u64, y: [u64; 4]) -> [u64; 4]
     ensures { result ≡ lowered_by o a r y }
 {
     [
-        least(o[0], 64 * (a + y[0]) + r),
-        least(o[1], 64 * (a + y[1]) + r),
-        least(o[2], 64 * (a + y[2]) + r),
-        least(o[3], 64 * (a + y[3]) + r),
+        o[0].min(64 * (a + y[0]) + r),
+        o[1].min(64 * (a + y[1]) + r),
+        o[2].min(64 * (a + y[2]) + r),
+        o[3].min(64 * (a + y[3]) + r),
     ]
 }
 
@@ -55,7 +48,7 @@ pub fn relax_rule(o: [u64; 4], a: u64, r: u64, y: [u64; 4]) -> [u64; 4]
 pub fn totals(y: [u64; 4]) -> [u64; 4]
     ensures { result ≡ totals_of y }
 {
-    [y[0] / 64, y[1] / 64, y[2] / 64, y[3] / 64]
+    y.map(|x| x / 64)
 }
 
 // The least of the sums of two vectors, or NONE.
@@ -63,8 +56,8 @@ pub fn dot(y: [u64; 4], v: [u64; 4]) -> u64
     requires { Low y × Low v }
     ensures { result ≡ lowest NONE (λ m. get_or y m 0 + get_or v m 0) 4 }
 {
-    let a = least(NONE, y[0] + v[0]);
-    let b = least(a, y[1] + v[1]);
-    let c = least(b, y[2] + v[2]);
-    least(c, y[3] + v[3])
+    let a = NONE.min(y[0] + v[0]);
+    let b = a.min(y[1] + v[1]);
+    let c = b.min(y[2] + v[2]);
+    c.min(y[3] + v[3])
 }

@@ -7,7 +7,7 @@ use native.Mathlib.Omega.{arith}
 use lib.ListN.{length, drop, get_or, drop_of_length-le}
 use Rattle.slices.specs.Lookup.{past_end, drop-step}
 use Rattle.sheet.specs.declared.table.Rule.TheVariants.{Division, Leaf}
-use Rattle.sheet.specs.Sheet.{division, leaf, Sheet}
+use Rattle.sheet.specs.Sheet.{Sheet}
 use Rattle.trees.specs.ValidTrees.{rule_at}
 use Rattle.expansions.specs.Tables.{unpacked_of, cell_of, RulesHeld}
 use Rattle.expansions.specs.RuleCells.{leaf_rule, division_rule}
@@ -38,9 +38,6 @@ abbrev pub CountedTo : (cells list : List ℕ) (leaves i : ℕ) → Type 0
 CountedTo cells list leaves i = (s : Sheet) → RulesHeld s cells → leaves + leaf_rules s (drop i list) ≡ leaf_rules s list
 
 module _ (cells list : List ℕ) where
-  pub none_counted : CountedTo cells list 0 0
-  none_counted s h = omega arith
-
   pub one_counted : (leaves i one : ℕ) → i < length list → ((s : Sheet) → RulesHeld s cells → one ≡ leaf_one s (get_or list i 0))
       → CountedTo cells list leaves i → CountedTo cells list (leaves + one) (i + 1)
   unfolding leaf_rules

@@ -1,13 +1,13 @@
 -- The bytes of score lines, put into an array field by field.
-use Prim.Native.Nat.{ℕ, ◌+◌, ◌-◌, ◌≤◌, ◌<◌}
+use Prim.Native.Nat.{ℕ, zero, suc, ◌+◌, ◌≤◌, ◌<◌}
 use mathlib.Core.Path.{◌≡◌, refl, sym, ap, ◌∙◌}
-use mathlib.Core.List.{List, [], ◌∷◌, ◌++◌, append_assoc, append-nil}
+use mathlib.Core.List.{List, [], ◌∷◌, ◌++◌, append_assoc}
 use native.Mathlib.Omega.{arith}
-use native.Mathlib.Numerals.{add-one}
-use lib.ListN.{length, get_or, take, drop, set, replicate, length-append, length-drop}
-use lib.Seq.{take-suc, get_or-drop, length-take-le}
-use Rattle.slices.specs.Over.{over_from}
-use Rattle.slices.specs.Pad.{pad, pad_nil, pad_more, pad_over, pad_whole}
+use lib.ListN.{length, take, drop, set, replicate, length-append, length-drop}
+use lib.Seq.{length-take-le}
+use Rattle.slices.specs.Over.{over_from, over-drop}
+use borrow.Rule.Slice.PartMut.{put_mid}
+use Rattle.slices.specs.Pad.{pad, length-pad, pad_nil, pad_more, pad_over, pad_whole}
 use Rattle.hextext.specs.Fields.{big_endian, length-big_endian}
 use Rattle.score.specs.Score.{head_line, leaf_front, leaf_line}
 use Rattle.score.specs.ScoreLaws.{leaf_front_bytes}
@@ -84,47 +84,33 @@ module _ (left len n : ℕ) where
       go : (x ≡ pad 44 0 (kind ++ l)) × (length (kind ++ l) ≡ 5) → set (set y 7 n) 8 placed ≡ pad 44 0 (leaf_front left len n placed)
       go (e, s) = last (put_number 44 (kind ++ l) x y 5 2 len e s (omega arith) ey)
 
--- the line's array after i pitches, whatever nine bytes stand before them
-abbrev pub Pitched : (pitches : List ℕ) (first : ℕ) (bytes₀ bytes : List ℕ) (i : ℕ) → Type 0
-Pitched pitches first bytes₀ bytes i =
-    (front : List ℕ) → length front ≡ 9 → bytes₀ ≡ pad 44 0 front → bytes ≡ pad 44 0 (front ++ take i (drop first pitches))
+-- the bytes before place n, then bs, then the bytes behind them
+over_mid : (n : ℕ) (bs xs : List ℕ) → n + length bs ≤ length xs → take n xs ++ (bs ++ drop (length bs) (drop n xs)) ≡ over_from n bs xs
+unfolding over_from
+over_mid zero bs xs h = sym (over-drop bs xs (omega arith))
+over_mid (suc n) bs [] h = absurd (omega arith)
+over_mid (suc n) bs (x ∷ xs) h = ap (λ l. x ∷ l) (over_mid n bs xs (omega arith))
 
-pub pitched_none : (pitches : List ℕ) (first : ℕ) (bytes₀ : List ℕ) → Pitched pitches first bytes₀ bytes₀ 0
-pitched_none pitches first bytes₀ front e f = f ∙ ap (pad 44 0) (sym (append-nil front))
-
-module _ (pitches : List ℕ) (first placed : ℕ) (few : placed ≤ 35) (within : first + placed ≤ length pitches) where
-  left_from : length (drop first pitches) ≡ length pitches - first
-  left_from = length-drop first pitches
-
-  taken : (front : List ℕ) → length front ≡ 9 → (i : ℕ) → i ≤ placed → length (front ++ take i (drop first pitches)) ≡ 9 + i
-  taken front e i h =
-      omega (
-        arith,
-        length-append front (take i (drop first pitches)),
-        length-take-le i (drop first pitches) (omega (arith, left_from)),
-      )
-
-  pub pitched_more : (bytes₀ bytes : List ℕ) (i : ℕ) → Pitched pitches first bytes₀ bytes i → i < placed
-      → Pitched pitches first bytes₀ (set bytes (9 + i) (get_or pitches (first + i) 0)) (i + 1)
-  pitched_more bytes₀ bytes i t h front e f =
-      let row = drop first pitches in
-      let x = get_or pitches (first + i) 0 in
-      let next : take (i + 1) row ≡ take i row ++ (x ∷ []) =
-      rw add-one (take-suc row i 0 (omega (arith, left_from)) ∙ ap (λ y. take i row ++ (y ∷ [])) (get_or-drop first pitches i 0)) in
-      pad_more 44 0 (front ++ take i row) bytes (9 + i) x (t front e f) (taken front e i (omega arith)) (omega arith)
-      ∙ ap (pad 44 0) (append_assoc front (take i row) (x ∷ []) ∙ ap (front ++◌) (sym next))
-
-  pub pitched_all : (left len n : ℕ) (bytes₀ bytes : List ℕ) (i : ℕ) → bytes₀ ≡ pad 44 0 (leaf_front left len n placed)
-      → Pitched pitches first bytes₀ bytes i → i ≡ placed
-      → LineHeld (leaf_line (record { left = left; len = len; n = n; pitches = take placed (drop first pitches) })) (9 + placed) bytes
-  unfolding leaf_line
-  pitched_all left len n bytes₀ bytes i f t e =
-      let front = leaf_front left len n placed in
-      let nine = leaf_front_bytes left len n placed in
-      let row = take placed (drop first pitches) in
-      let whole : front ++ row ≡ leaf_front left len n (length row) ++ row =
-      ap (λ k. leaf_front left len n k ++ row) (sym (length-take-le placed (drop first pitches) (omega (arith, left_from)))) in
-      record {
-        size = sym (taken front nine placed (omega arith)) ∙ ap length whole;
-        cells = (rw e at (t front nine f)) ∙ ap (pad 44 0) whole;
-      }
+-- the pitches, copied behind the nine bytes
+pub pitched : (left len n placed first k m : ℕ) (pitches bytes row : List ℕ) → placed ≤ 35 → first + placed ≤ length pitches
+    → bytes ≡ pad 44 0 (leaf_front left len n placed) → k ≡ placed → m ≡ placed → row ≡ take m (drop first pitches)
+    → LineHeld (leaf_line (record { left = left; len = len; n = n; pitches = take placed (drop first pitches) })) (9 + placed)
+    (put_mid 9 k bytes row)
+unfolding leaf_line
+pitched left len n placed first k m pitches bytes row few within e ek em er =
+    let nine = leaf_front_bytes left len n placed in
+    let room : length bytes ≡ 44 = ap length e ∙ length-pad 44 0 _ in
+    let here : row ≡ take placed (drop first pitches) = er ∙ ap (λ i. take i (drop first pitches)) em in
+    let size : length row ≡ placed =
+    ap length here ∙ length-take-le placed (drop first pitches) (omega (arith, length-drop first pitches)) in
+    let all : leaf_front left len n (length row) ++ row
+    ≡ leaf_line (record { left = left; len = len; n = n; pitches = take placed (drop first pitches) }) =
+    ap (λ xs. leaf_front left len n (length xs) ++ xs) here in
+    let whole : leaf_front left len n placed ++ row ≡ leaf_front left len n (length row) ++ row =
+    ap (λ i. leaf_front left len n i ++ row) (sym size) in
+    record {
+      size = omega (arith, nine, length-append (leaf_front left len n placed) row, ap length whole, ap length all);
+      cells =
+          ap (λ i. take 9 bytes ++ (row ++ drop i (drop 9 bytes))) (ek ∙ sym size) ∙ over_mid 9 row bytes (omega arith)
+          ∙ pad_over 44 0 (leaf_front left len n placed) bytes 9 row e nine (omega arith) ∙ ap (pad 44 0) (whole ∙ all);
+    }

@@ -10,7 +10,7 @@ use lib.ListN.{length, drop, get_or}
 use lib.Seq.{drop-length}
 use Rattle.slices.specs.Over.{over_from}
 use Rattle.slices.specs.Lookup.{drop-step}
-use Rattle.sheet.specs.Sheet.{division, Sheet}
+use Rattle.sheet.specs.Sheet.{Sheet}
 use Rattle.derivations.specs.Derivation.{Item, derive}
 use Rattle.trees.specs.ValidTrees.{adjoining, placed_from}
 use Rattle.trees.specs.Instance.{instance_of}
@@ -52,13 +52,13 @@ went_on_twice : {s : Sheet} {list : List ℕ} {gs hs is : List Item} {p x y : Pl
 went_on_twice v w = record { text = w.text ∙ v.text; end = w.end ∙ v.end }
 
 -- where the intervals begin
-pub none_left : (left len : ℕ) → left ≡ left + 0 * len
+none_left : (left len : ℕ) → left ≡ left + 0 * len
 none_left left len = omega (arith, zero-mul len)
 
 next_left : (left len j : ℕ) → left + j * len + len ≡ left + (j + 1) * len
 next_left left len j = rw add-one (omega (arith, suc-mul j len))
 
-pub one_left : (l left len j : ℕ) → l ≡ left + j * len → l + len ≡ left + (j + 1) * len
+one_left : (l left len j : ℕ) → l ≡ left + j * len → l + len ≡ left + (j + 1) * len
 one_left l left len j e = ap (◌+ len) e ∙ next_left left len j
 
 module _ {s : Sheet} {rest : List Item} {ks cells us ps list : List ℕ} {left len : ℕ} {p : Place} {score : List ℕ}

@@ -1,5 +1,5 @@
 -- Writing the score lines of a valid tree, step by step: what the functions are given, and what they give.
-use Rattle.std.specs.Prelude.{ℕ, ◌+◌, ◌-◌, ◌≤◌, ◌≡◌, List, [], ◌∷◌, ◌++◌, map, length, take, drop}
+use Rattle.std.specs.Prelude.{ℕ, ◌+◌, ◌-◌, ◌≤◌, ◌≡◌, List, ◌∷◌, ◌++◌, map, length, take, drop}
 use Rattle.std.proofs.Math.Option.{some}
 use Rattle.slices.specs.Over.{over, over_from}
 use Rattle.slices.specs.Pad.{pad}
@@ -18,8 +18,8 @@ use Rattle.trees.specs.LeafBounds.{InOneBar}
 use Rattle.expansions.specs.declared.Interval.{Interval}
 use Rattle.expansions.specs.Tables.{RulesHeld, UnitsHeld}
 use Rattle.expansions.specs.Items.{first_at, item_of}
-use Rattle.pricing.specs.declared.Priced.{Priced}
-use Rattle.pricing.specs.Pricing.{price_sheet, priced_of}
+use Rattle.sheet.specs.Refusal.{outcome_of}
+use Rattle.pricing.specs.Pricing.{price_sheet, priced_of, Answer}
 use Rattle.score.specs.declared.tree.Place.{Place}
 use Rattle.score.specs.Score.{ScoreLeaf, leaf_line, score_leaf, entry_lines, tree_text}
 
@@ -144,6 +144,6 @@ pub record TextWritten (s : Sheet) (list : List ℕ) (R D total r : ℕ) (score 
   pub end : r ≡ length (tree_text s list R D total)
 
 -- what `write_priced` is given: the tables hold the sheet, and the price is what pricing the list gives
-pub record PricedPre (s : Sheet) (g : GrammarTable) (p : PlayingTable) (list : List ℕ) (price : Priced) : Type 0 where
+pub record PricedPre (s : Sheet) (g : GrammarTable) (p : PlayingTable) (list : List ℕ) (price : Answer) : Type 0 where
   pub held : SheetHeld s g p
-  pub own : price ≡ priced_of (price_sheet s list)
+  pub own : outcome_of price ≡ priced_of (price_sheet s list)

@@ -1,11 +1,12 @@
 -- Writing, in the words of document 01's sections "Pricing, score lines, finding" and "When it says no".
-use Rattle.std.specs.Prelude.{ℕ, ◌≡◌, cond, List, [], leb, length}
+use Rattle.std.specs.Prelude.{ℕ, ◌≡◌, cond, List, leb, length, Result}
 use Rattle.slices.specs.Over.{over}
 use Rattle.sheet.specs.Sheet.{Sheet}
-use Rattle.sheet.specs.Outcome.{Outcome, refused, accepted, number_in, line_in, value_in, and_then}
+use Rattle.sheet.specs.declared.refusal.Refused.{Refused}
+use Rattle.sheet.specs.Outcome.{Outcome, refused, accepted, and_then}
+use Rattle.sheet.specs.Refusal.{outcome_of, on_value}
 use Rattle.sheet.specs.Reading.{on_sheet}
 use Rattle.pricing.specs.Pricing.{Figures, price_sheet}
-use Rattle.score.specs.declared.Written as answer
 use Rattle.score.specs.Score.{tree_text}
 
 -- "13: score slice short of the exact text", with line 0
@@ -28,10 +29,9 @@ unfoldable pub write_text : (text list : List ℕ) → (room : ℕ) → Outcome 
 unfolding on_sheet
 write_text text list room = on_sheet text (λ s. write_sheet s list room)
 
--- The struct of an outcome: writing "gives the byte count". "A refusal gives its number, the line [..] and zeros elsewhere"; "An accepted
--- call gives number 0 and line 0 beside its result"
-unfoldable pub written_of : Outcome (List ℕ) → answer.Written
-written_of o = record { number = number_in o; line = line_in o; bytes = length (value_in [] o) }
+-- an outcome as it is answered: writing "gives the byte count"
+abbrev pub written_of : Outcome (List ℕ) → Outcome ℕ
+written_of o = on_value length o
 
 -- The score slice: a refusal keeps it, and the text lies over its front; "Bytes past the text keep their values"
 unfoldable pub score_after : Outcome (List ℕ) → List ℕ → List ℕ
@@ -40,6 +40,6 @@ score_after (refused k n) score = score
 score_after (accepted text) score = over text score
 
 -- the promise of `write`, for every text, every list and every slice
-abbrev pub Writes : (text list score score' : List ℕ) → answer.Written → Type 0
+abbrev pub Writes : (text list score score' : List ℕ) → Result ℕ Refused → Type 0
 Writes text list score score' r =
-    (r ≡ written_of (write_text text list (length score))) × (score' ≡ score_after (write_text text list (length score)) score)
+    (outcome_of r ≡ written_of (write_text text list (length score))) × (score' ≡ score_after (write_text text list (length score)) score)

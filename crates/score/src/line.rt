@@ -6,7 +6,7 @@ ghost use Rattle.score.specs.Clauses.{leaf_over, LineHeld};
 
 use expansions::Interval;
 use hextext::put_field;
-use sheet::Pitches;
+use sheet::{Kind, Pitches};
 
 // The head's line: its kind, the bars, and three numbers of eight bytes.
 pub const HEAD_LINE_BYTES: usize = 26;
@@ -19,7 +19,7 @@ pub fn head_line(bars: u8, total: u64, weight: u64, distance: u64) -> [u8; HEAD_
     ensures { result ≡ head_line bars total weight distance }
 {
     let mut line = [0u8; HEAD_LINE_BYTES];
-    line[0] = 0x54;
+    line[0] = Kind::ScoreHead as u8;
     line[1] = bars;
     put_field(&mut line, 2, 8, total);
     put_field(&mut line, 10, 8, weight);
@@ -32,7 +32,7 @@ fn leaf_front(line: &mut [u8], over: Interval, n: u8, placed: usize)
     requires { (placed ≤ 35) × (line.old ≡ replicate 44 0) }
     ensures { line.new ≡ pad 44 0 (leaf_front over.left.0 over.len.0 n placed) }
 {
-    line[0] = 0x53;
+    line[0] = Kind::ScoreLeaf as u8;
     put_field(line, 1, 4, over.left.0 as u64);
     put_field(line, 5, 2, over.len.0 as u64);
     line[7] = n;
@@ -53,10 +53,6 @@ pub fn leaf_line(
     ensures { LineHeld (leaf_line (leaf_over over n (take placed (drop first pitches.now)))) result line.new }
 {
     leaf_front(line, over, n, placed);
-    let mut i: usize = 0;
-    while i < placed {
-        line[9 + i] = pitches[first + i];
-        i += 1;
-    }
+    line[9..9 + placed].copy_from_slice(&pitches[first..first + placed]);
     9 + placed
 }

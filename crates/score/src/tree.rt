@@ -19,9 +19,9 @@ pub struct Place {
 }
 
 // Writes the line of a leaf whose rule stands before place p.
-fn write_leaf<'a>(
-    units: &'a PackedUnits,
-    pitches: &'a Pitches,
+fn write_leaf(
+    units: &PackedUnits,
+    pitches: &Pitches,
     over: Interval,
     n: u8,
     p: Place,
@@ -53,11 +53,11 @@ fn write_leaf<'a>(
 }
 
 // Writes the lines of the leaves of the tree over an interval; its rules stand in the list from place p on.
-fn write_tree<'a>(
-    rules: &'a PackedRules,
-    units: &'a PackedUnits,
-    pitches: &'a Pitches,
-    list: &'a [u8],
+fn write_tree(
+    rules: &PackedRules,
+    units: &PackedUnits,
+    pitches: &Pitches,
+    list: &[u8],
     over: Interval,
     p: Place,
     score: &mut [u8],
@@ -78,29 +78,16 @@ fn write_tree<'a>(
         to: p.to,
     };
     match rule {
-        Rule::Leaf {
-            head: _,
-            weight: _,
-            n,
-        } => write_leaf(units, pitches, over, n, next, score),
-        Rule::Division {
-            head: _,
-            weight: _,
-            arity,
-        } => {
+        Rule::Leaf { n, .. } => write_leaf(units, pitches, over, n, next, score),
+        Rule::Division { arity, .. } => {
             let k = arity as u32;
             let len = over.len.0 / k;
-            let mut left = over.left.0;
-            let mut j: u32 = 0;
-            while j < k {
+            for j in 0..k {
                 let part = Interval {
-                    left: Units(left),
+                    left: Units(over.left.0 + j * len),
                     len: Units(len),
                 };
-                let further = write_tree(rules, units, pitches, list, part, next, score);
-                next = further;
-                left += len;
-                j += 1;
+                next = write_tree(rules, units, pitches, list, part, next, score);
             }
             next
         }
@@ -108,11 +95,11 @@ fn write_tree<'a>(
 }
 
 // Writes the lines of the leaves of all bars, from place `to` of the score on; gives the place behind them.
-pub fn write_bars<'a>(
-    rules: &'a PackedRules,
-    units: &'a PackedUnits,
-    pitches: &'a Pitches,
-    list: &'a [u8],
+pub fn write_bars(
+    rules: &PackedRules,
+    units: &PackedUnits,
+    pitches: &Pitches,
+    list: &[u8],
     bars: u8,
     to: usize,
     score: &mut [u8],
@@ -122,22 +109,18 @@ pub fn write_bars<'a>(
         → BarsPre s rules.now units.now pitches.now list.now bars to score.old
         → BarsWritten s list.now to result score.old score.new }
 {
-    let n = bars as u32;
     let mut next = Place {
         at: 0,
         from: 0,
         carried: 0,
         to,
     };
-    let mut b: u32 = 0;
-    while b < n {
+    for b in 0..bars as u32 {
         let bar = Interval {
             left: Units(BAR_UNITS * b),
             len: Units(BAR_UNITS),
         };
-        let further = write_tree(rules, units, pitches, list, bar, next, score);
-        next = further;
-        b += 1;
+        next = write_tree(rules, units, pitches, list, bar, next, score);
     }
     next.to
 }

@@ -22,7 +22,8 @@ use Rattle.search.proofs.PassSteps.{length-stored, root_cells_low, totals_low}
 -- ---- `suffix_step`
 
 module _ {s : Sheet} {roots : List ℕ} {e b : ℕ} {v : List ℕ} (h : SuffixStepPre s roots e b v) where
-  module _ (c : ℕ) (hc : c < carries) (i : ℕ) (ei : i ≡ 4 * (4 * b + c)) {y t : List ℕ} (ey : y ≡ row_at roots i) (et : t ≡ totals_of y) where
+  module _ (c : ℕ) (hc : c < carries) (i : ℕ) (ei : i ≡ 4 * (4 * b + c)) {y t : List ℕ} (ey : y ≡ row_at roots i)
+      (et : t ≡ totals_of y) where
     abbrev row : List ℕ
     row = row_at roots (4 * (4 * b + c))
 

@@ -1,15 +1,12 @@
--- The steps of `is_cut_point`, `commit`, `forward` and `copy`: bars up to a bar line that nothing is carried over are built at once.
+-- The steps of `is_cut_point`, `commit` and `forward`: bars up to a bar line that nothing is carried over are built at once.
 -- `Going` is the invariant of `forward`: it begins with no bar (`going_none`), goes on by a bar (`going_more`) and by bars that are
 -- committed (`going_committed`), and tells the result (`going_none_found`, `going_found`).
 use Prim.Native.Nat.{ℕ, ◌+◌, ◌≤◌, ◌<◌}
 use mathlib.Core.Path.{◌≡◌, refl, sym, ap, subst, ◌∙◌}
 use mathlib.Core.List.{List}
 use native.Mathlib.Decide.{ℕ_discrete}
-use native.Mathlib.Numerals.{add-one}
 use native.Mathlib.Omega.{arith}
-use lib.ListN.{length, take, get_or, set}
-use lib.Seq.{take-suc, length-take-le}
-use Rattle.slices.specs.Over.{over, over_more}
+use lib.ListN.{length, get_or}
 use Rattle.sheet.specs.Sheet.{Sheet}
 use Rattle.derivations.specs.Minima.{only}
 use Rattle.trees.specs.LeastTotal.{NONE, carries, least_total}
@@ -19,7 +16,7 @@ use Rattle.rows.specs.VectorLaws.{low_eq}
 use Rattle.rows.specs.Slots.{Sound}
 use Rattle.rows.specs.IdleLaws.{Idle}
 use Rattle.filling.specs.Filling.{FillEntry}
-use Rattle.search.specs.declared.Found.TheVariants.{NoTree, Tree}
+use Rattle.std.specs.Prelude.{Option, Some, None}
 use Rattle.search.specs.Clauses.{bar_of, prefix_costs, CutPoint, CutVector, BackwardPre, VectorsFrom, BarsBuildPre, Committed}
 use Rattle.search.specs.Clauses.{CommittedAs, CommitPre, ForwardPre, FoundIn}
 use Rattle.search.proofs.BarLaws.{prefix_low, cut_first, total_last}
@@ -70,10 +67,15 @@ pub record Going (s : Sheet) (rows tree roots : List ℕ) (b : ℕ) (v : List �
   pub cut : CutPoint s done
   pub committed : Committed s tree done next
 
+-- the same after a join
+pub going_same : {s : Sheet} {rows rows' tree tree' roots : List ℕ} {b : ℕ} {v : List ℕ} {done done' next next' : ℕ} → rows' ≡ rows
+    → tree' ≡ tree → done' ≡ done → next' ≡ next → Going s rows tree roots b v done next → Going s rows' tree' roots b v done' next'
+going_same er et ed en p = rw (er, et, ed, en) p
+
 pub forwarded_low : {s : Sheet} {rows roots : List ℕ} {b : ℕ} {v : List ℕ} → Forwarded s rows roots b v → Low v
 forwarded_low {s} {b = b} {v} p = low_eq v (prefix_costs s b) p.is (prefix_low s b)
 
-module _ {s : Sheet} {plan us order rows tree roots vectors : List ℕ} {start count : ℕ}
+module _ {s : Sheet} {plan us : List ℕ} {order : Option (List ℕ)} {rows tree roots vectors : List ℕ} {start count : ℕ}
     (h : ForwardPre s plan us order rows tree roots vectors start count) where
   pub going_none : {v : List ℕ} → v ≡ vec (only NONE 0) → Going s rows tree roots 0 v 0 0
   going_none ev = record {
@@ -132,7 +134,8 @@ module _ {s : Sheet} {plan us order rows tree roots vectors : List ℕ} {start c
       vectors_size = omega (arith, h.vectors_size);
     }
 
-    pub going_committed : {then tree'' : List ℕ} {k : ℕ} → CutVector s v → CommittedAs s then tree'' b k → Going s then tree'' roots' b v b k
+    pub going_committed : {then tree'' : List ℕ} {k : ℕ} → CutVector s v → CommittedAs s then tree'' b k
+        → Going s then tree'' roots' b v b k
     going_committed cut-vector told = record {
       forwarded = (going_filled told.sound).forwarded;
       rising = omega arith;
@@ -149,7 +152,7 @@ module _ {s : Sheet} {plan us order rows tree roots vectors : List ℕ} {start c
       least_is : get_or v 0 0 ≡ least_total s
       least_is = total_is ∙ ap (λ (n : ℕ). prefix_costs s n 0) last ∙ total_last s h.entry.prepared.good
 
-      pub going_none_found : NONE ≤ get_or v 0 0 → FoundIn s tree' NoTree
+      pub going_none_found : NONE ≤ get_or v 0 0 → FoundIn s tree' None
       going_none_found k = omega (arith, least_is)
 
       pub going_last : {filled : List ℕ} → length filled ≡ length vectors → get_or v 0 0 < NONE
@@ -159,16 +162,6 @@ module _ {s : Sheet} {plan us order rows tree roots vectors : List ℕ} {start c
           (going_commit {filled = filled} (omega (arith, all)) size low)
 
       pub going_found : {then tree'' : List ℕ} {k : ℕ} → get_or v 0 0 < NONE → CommittedAs s then tree'' count k
-          → FoundIn s tree'' (Tree k (get_or v 0 0))
+          → FoundIn s tree'' (Some (record { nodes = k; total = get_or v 0 0 }))
       going_found {then} {tree''} {k} low told =
           (subst (λ (n : ℕ). Committed s tree'' n k) h.entry.count_is told.committed, least_is, omega (arith, least_is))
-
--- ---- `copy`
-
-pub copied_more : (from to : List ℕ) {now : List ℕ} (i : ℕ) → i < length from → i < length to → now ≡ over (take i from) to
-    → set now i (get_or from i 0) ≡ over (take (i + 1) from) to
-copied_more from to {now} i hf ht e =
-    let size : length (take i from) ≡ i = length-take-le i from (omega arith) in
-    rw (add-one, take-suc from i 0 hf) (ap (λ (xs : List ℕ). set xs i (get_or from i 0)) e
-    ∙ ap (λ (k : ℕ). set (over (take i from) to) k (get_or from i 0)) (sym size)
-    ∙ over_more (take i from) to (get_or from i 0) (omega (arith, size)))

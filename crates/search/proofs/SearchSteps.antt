@@ -7,11 +7,10 @@ use mathlib.Core.List.{List, [], ◌∷◌, ◌++◌}
 use native.Mathlib.Nat.{mul-le-mul}
 use native.Mathlib.Omega.{arith}
 use borrow.Author.Tests.{eq-eqb}
-use lib.ListN.{length, take, drop, replicate, length-append, length-drop}
+use lib.ListN.{length, take, drop, get_or, replicate, length-append, length-drop, length-replicate, get_or-replicate}
 use lib.Seq.{drop-append-add, drop-drop, length-take-le}
 use Rattle.slices.specs.Every.{Every}
-use Rattle.slices.specs.Over.{over}
-use Rattle.slices.specs.Filled.{Filled, filled_over}
+use Rattle.slices.specs.Over.{over, over-drop}
 use Rattle.sheet.specs.declared.table.GrammarTable.{GrammarTable}
 use Rattle.sheet.specs.declared.table.PlayingTable.{PlayingTable}
 use Rattle.sheet.specs.Sheet.{Onset, Playing, Sheet, bar_units, in_bar}
@@ -33,10 +32,15 @@ use Rattle.rows.specs.Slots.{slots, slot_cell}
 use Rattle.rows.specs.OnsetLaws.{largest_le}
 use Rattle.filling.specs.Order.{Ordered}
 use Rattle.search.specs.declared.Found.{Found}
-use Rattle.search.specs.declared.Found.TheVariants.{Tree}
+use Rattle.std.specs.Prelude.{Option, Some}
 use Rattle.search.specs.Clauses.{bars_to, ForwardPre, Committed, FoundIn, ParsePre, FoundAs}
 use Rattle.search.specs.Clauses.{row_cells, RowCellsPre, SearchPre, Searched}
 use Rattle.search.proofs.EnterSteps.{product_few, slots_few}
+
+-- a list copied over the front of a slice of at least its length
+pub copied_over : (n : ℕ) (bs xs : List ℕ) → length bs ≡ n → n ≤ length xs → bs ++ drop n xs ≡ over bs xs
+copied_over n bs xs e h =
+    ap (λ (k : ℕ). bs ++ drop k xs) (sym e) ∙ sym (over-drop bs xs (omega arith))
 
 module _ {s : Sheet} {plan us rows tree : List ℕ} {start count : ℕ} (h : ParsePre s plan us rows tree start count) where
   pub bars_few : count ≤ 64
@@ -48,18 +52,20 @@ module _ {s : Sheet} {plan us rows tree : List ℕ} {start count : ℕ} (h : Par
   tree_most_lem = omega (arith, h.onsets.good.sixty_four, h.onsets.good.most)
 
   -- a table of zeros claims nothing
-  pub parse_forward : {now order bytes roots vectors : List ℕ} {n : ℕ} → n ≡ length rows → Filled (λ _. 0) rows now n
+  pub parse_forward : {now : List ℕ} {order : Option (List ℕ)} {bytes roots vectors : List ℕ} → now ≡ replicate (length rows) 0
       → Ordered s order
       → length roots ≡ 1024 → length vectors ≡ 260 → length bytes ≡ tree_most
       → ForwardPre s plan us order now bytes roots vectors start count
-  parse_forward {now} en t ordered er ev eb = record {
+  parse_forward {now} en ordered er ev eb = record {
     entry = record {
       prepared = h.prepared;
       onsets = h.onsets;
       start_is = h.start_is;
       count_is = h.count_is;
       some_slot = h.some_slot;
-      sound = memo_clear (slot_cell s) now (slots s) (t.size ∙ h.rows_size) (λ i hi. t.each i (omega (arith, h.rows_size)));
+      sound =
+          memo_clear (slot_cell s) now (slots s) (ap length en ∙ length-replicate (length rows) 0 ∙ h.rows_size)
+          (λ i hi. ap (λ (xs : List ℕ). get_or xs i 0) en ∙ get_or-replicate (length rows) i 0 0 (omega (arith, h.rows_size)));
     };
     ordered = ordered;
     roots_size = omega (arith, er, bars_few);
@@ -68,11 +74,11 @@ module _ {s : Sheet} {plan us rows tree : List ℕ} {start count : ℕ} (h : Par
   }
 
   -- the bytes of a tree that is found fit both slices
-  module _ {bytes : List ℕ} {n total : ℕ} (f : FoundIn s bytes (Tree n total)) where
-    committed : Committed s bytes s.playing.bars n
+  module _ {bytes : List ℕ} {r : Found} (f : FoundIn s bytes (Some r)) where
+    committed : Committed s bytes s.playing.bars r.nodes
     committed = f.0
 
-    pub found_most : n ≤ tree_bytes s
+    pub found_most : r.nodes ≤ tree_bytes s
     unfolding bars tree_bytes
     found_most =
         omega (
@@ -84,11 +90,11 @@ module _ {s : Sheet} {plan us rows tree : List ℕ} {start count : ℕ} (h : Par
           bars_room s,
         )
 
-    pub found_fits : (n ≤ length bytes) × (n ≤ length tree)
+    pub found_fits : (r.nodes ≤ length bytes) × (r.nodes ≤ length tree)
     found_fits = (omega (arith, found_most, committed.room), omega (arith, found_most, h.tree_size))
 
     -- they are copied
-    pub found_copied : {after : List ℕ} → after ≡ over (take n bytes) tree → FoundAs s tree after (Tree n total)
+    pub found_copied : {after : List ℕ} → after ≡ over (take r.nodes bytes) tree → FoundAs s tree after (Some r)
     unfolding least_total bars
     found_copied {after} e = (
       committed.bytes,
@@ -191,11 +197,11 @@ module _ {s : Sheet} {grammar : GrammarTable} {playing : PlayingTable} {tree wor
       omega (arith, length-append zs (drop cells work), length-drop cells work, size, length-take-le cells work fit)
 
   -- the rows come back, and then all required cells are cleared
-  pub searched : (after zs then : List ℕ) (cells n : ℕ) (r : Found) → FoundAs s tree after r → cells ≤ length work
-      → length zs ≡ length (take cells work) → cells ≤ n → n ≡ work_cells s → Filled (λ _. 0) (zs ++ drop cells work) then n
-      → Searched s tree after work then r
-  searched after zs then cells n r found fit size more en t =
-      record { found = found; clear = subst (λ (k : ℕ). then ≡ over (replicate k 0) work) en cleared }
+  pub searched : (after zs part : List ℕ) (cells n k : ℕ) (r : Option Found) → FoundAs s tree after r → cells ≤ length work
+      → length zs ≡ length (take cells work) → cells ≤ n → n ≡ work_cells s → part ≡ replicate k 0 → k ≡ n
+      → Searched s tree after work (part ++ drop n (zs ++ drop cells work)) r
+  searched after zs part cells n k r found fit size more en ep ek =
+      record { found = found; clear = subst (λ (k : ℕ). part ++ drop n (zs ++ drop cells work) ≡ over (replicate k 0) work) en cleared }
     where
       front : length zs ≡ cells
       front = size ∙ length-take-le cells work fit
@@ -208,7 +214,10 @@ module _ {s : Sheet} {grammar : GrammarTable} {playing : PlayingTable} {tree wor
           (drop-append-add zs (drop cells work) (n - cells))
           ∙ drop-drop (n - cells) cells work ∙ ap (λ (k : ℕ). drop k work) f
 
-      cleared : then ≡ over (replicate n 0) work
+      zeros : part ≡ replicate n 0
+      zeros = ep ∙ ap (λ (i : ℕ). replicate i 0) ek
+
+      cleared : part ++ drop n (zs ++ drop cells work) ≡ over (replicate n 0) work
       cleared =
-          filled_over 0 (zs ++ drop cells work) then work n t (omega (arith, en, h.work_size))
-          (lent_length zs cells size fit) rest
+          ap (part ++◌) rest ∙ ap (λ (xs : List ℕ). xs ++ drop n work) zeros
+          ∙ copied_over n (replicate n 0) work (length-replicate n 0) (omega (arith, en, h.work_size))

@@ -1,5 +1,5 @@
 -- The search of a sheet: over its bars, and as a whole. What the functions are given, and what they give.
-use Rattle.std.specs.Prelude.{ℕ, ◌+◌, ◌*◌, ◌/◌, ◌≤◌, ◌<◌, ◌≡◌, List, ◌⊎◌, length, take, drop, replicate, get_or}
+use Rattle.std.specs.Prelude.{ℕ, ◌+◌, ◌*◌, ◌/◌, ◌≤◌, ◌<◌, ◌≡◌, List, ◌⊎◌, length, take, drop, replicate, get_or, Option, Some, None}
 use Rattle.slices.specs.Over.{over}
 use Rattle.sheet.specs.declared.table.GrammarTable.{GrammarTable}
 use Rattle.sheet.specs.declared.table.PlayingTable.{PlayingTable}
@@ -25,7 +25,6 @@ use Rattle.rows.specs.PackedLaws.{packed_cell}
 use Rattle.rows.specs.Slots.{slots, shift_of, Sound}
 use Rattle.rows.specs.IdleLaws.{Idle}
 use Rattle.search.specs.declared.Found.{Found}
-use Rattle.search.specs.declared.Found.TheVariants.{NoTree, Tree}
 use Rattle.building.specs.Clauses.{suffix_costs}
 use Rattle.filling.specs.Order.{Ordered}
 
@@ -193,7 +192,8 @@ pub record CommittedAs (s : Sheet) (rows tree : List ℕ) (e n : ℕ) : Type 0 w
   pub sound : Sound s rows
 
 -- all bars, with tables of the lengths that they need
-pub record ForwardPre (s : Sheet) (plan units order rows tree roots vectors : List ℕ) (start count : ℕ) : Type 0 where
+pub record ForwardPre (s : Sheet) (plan units : List ℕ) (order : Option (List ℕ)) (rows tree roots vectors : List ℕ)
+    (start count : ℕ) : Type 0 where
   pub entry : BarsPre s plan units rows start count
   pub ordered : Ordered s order
   pub roots_size : 16 * count ≤ length roots
@@ -201,18 +201,19 @@ pub record ForwardPre (s : Sheet) (plan units order rows tree roots vectors : Li
   pub room : tree_bytes s ≤ length tree
 
 -- no total is below the cap, or all bars are committed and the least total is known
-abbrev pub FoundIn : Sheet → (tree : List ℕ) → Found → Type 0
-FoundIn s tree NoTree = NONE ≤ least_total s
-FoundIn s tree (Tree n total) = Committed s tree s.playing.bars n × (total ≡ least_total s) × (least_total s < NONE)
+abbrev pub FoundIn : Sheet → (tree : List ℕ) → Option Found → Type 0
+FoundIn s tree None = NONE ≤ least_total s
+FoundIn s tree (Some f) = Committed s tree s.playing.bars f.nodes × (f.total ≡ least_total s) × (least_total s < NONE)
 
 -- ---- a sheet
 
--- what the search gives: no total is below the cap, and the tree is kept; or n bytes at its front are the first least tree, of this total
-abbrev pub FoundAs : Sheet → (tree after : List ℕ) → Found → Type 0
-FoundAs s tree after NoTree = (NONE ≤ least_total s) × (after ≡ tree)
-FoundAs s tree after (Tree n total) =
-    (bytes : List ℕ) × (R : ℕ) × (D : ℕ) × FirstTree s bytes R D × (n ≡ length bytes) × (after ≡ over bytes tree)
-    × (total ≡ total_of s R D)
+-- what the search gives: no total is below the cap, and the tree is kept; or so many bytes at its front are the first least tree, of this
+-- total
+abbrev pub FoundAs : Sheet → (tree after : List ℕ) → Option Found → Type 0
+FoundAs s tree after None = (NONE ≤ least_total s) × (after ≡ tree)
+FoundAs s tree after (Some f) =
+    (bytes : List ℕ) × (R : ℕ) × (D : ℕ) × FirstTree s bytes R D × (f.nodes ≡ length bytes) × (after ≡ over bytes tree)
+    × (f.total ≡ total_of s R D)
 
 -- the cells of the rows, four a slot: 16 × Q × L × E
 abbrev pub row_cells : Sheet → ℕ
@@ -240,6 +241,6 @@ pub record SearchPre (s : Sheet) (grammar : GrammarTable) (playing : PlayingTabl
   pub work_size : work_cells s ≤ length work
 
 -- and the required cells of the work slice are 0
-pub record Searched (s : Sheet) (tree after work cleared : List ℕ) (r : Found) : Type 0 where
+pub record Searched (s : Sheet) (tree after work cleared : List ℕ) (r : Option Found) : Type 0 where
   pub found : FoundAs s tree after r
   pub clear : cleared ≡ over (replicate (work_cells s) 0) work

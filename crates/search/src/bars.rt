@@ -29,9 +29,9 @@ pub fn enter(units: &PackedUnits, b: usize, slots: usize) -> Bar
 }
 
 // The row of a bar from carry state c, where v is the prefix costs; no tree where c is idle.
-fn root_row<'a>(
-    plan: &'a Plan,
-    units: &'a PackedUnits,
+fn root_row(
+    plan: &Plan,
+    units: &PackedUnits,
     rows: &mut [u64],
     bar: Bar,
     start: usize,
@@ -50,9 +50,9 @@ fn root_row<'a>(
 }
 
 // Stores the rows of a bar from each carry state; gives the prefix costs behind it.
-pub fn pass<'a>(
-    plan: &'a Plan,
-    units: &'a PackedUnits,
+pub fn pass(
+    plan: &Plan,
+    units: &PackedUnits,
     rows: &mut [u64],
     roots: &mut [u64],
     bar: Bar,
@@ -65,13 +65,11 @@ pub fn pass<'a>(
 {
     let at = ITEM_CELLS * bar.number;
     let mut o = [NONE; 4];
-    let mut c: usize = 0;
-    while c < 4 {
+    for c in 0..4 {
         let y = root_row(plan, units, rows, bar, start, v, c);
         store(roots, at + 4 * c, y, 0);
         let w = relax(o, v[c], totals(y));
         o = w;
-        c += 1;
     }
     o
 }

@@ -23,17 +23,7 @@ pub fn is_cut_point(plan: &Plan, v: [u64; 4]) -> bool
     requires { Low v × ((s : Sheet) × Prepared s plan.now) }
     ensures { (s : Sheet) → Prepared s plan.now → result ≡ true → CutVector s v }
 {
-    if v[0] >= NONE {
-        return false;
-    }
-    if idle(plan, v, 1, 1) {
-        if idle(plan, v, 2, 1) {
-            if idle(plan, v, 3, 1) {
-                return true;
-            }
-        }
-    }
-    false
+    v[0] < NONE && idle(plan, v, 1, 1) && idle(plan, v, 2, 1) && idle(plan, v, 3, 1)
 }
 
 // The suffix costs from bar b on, of its rows and the suffix costs v behind it.
@@ -52,15 +42,13 @@ fn suffix_step(roots: &[u64], b: usize, v: [u64; 4]) -> [u64; 4]
 
 // Fills a table with the suffix costs of the bars from bar `from` on that are before bar `end`, and the one behind them: nothing is carried
 // on.
-fn backward<'a>(roots: &'a [u64], vectors: &mut [u64], from: usize, end: usize)
+fn backward(roots: &[u64], vectors: &mut [u64], from: usize, end: usize)
     requires { (s : Sheet) × BackwardPre s roots.now vectors.old from end }
     ensures { (s : Sheet) → BackwardPre s roots.now vectors.old from end → VectorsFrom s vectors.new end from }
 {
     let mut v = only_at(0);
     store(vectors, 4 * end, v, 0);
-    let mut b = end;
-    while from < b {
-        b -= 1;
+    for b in (from..end).rev() {
         let w = suffix_step(roots, b, v);
         store(vectors, 4 * b, w, 0);
         v = w;
@@ -68,13 +56,13 @@ fn backward<'a>(roots: &'a [u64], vectors: &mut [u64], from: usize, end: usize)
 }
 
 // Writes the first least lists of these bars, one behind the other, from byte `n` on; gives the number of bytes with those before.
-fn build_bars<'a>(
-    plan: &'a Plan,
-    units: &'a PackedUnits,
+fn build_bars(
+    plan: &Plan,
+    units: &PackedUnits,
     rows: &mut [u64],
     tree: &mut [u8],
-    vectors: &'a [u64],
-    roots: &'a [u64],
+    vectors: &[u64],
+    roots: &[u64],
     start: usize,
     from: usize,
     end: usize,
@@ -88,13 +76,11 @@ fn build_bars<'a>(
     let slots = rows.len() / 4;
     let mut next = n;
     let mut carry: usize = 0;
-    let mut b = from;
-    while b < end {
+    for b in from..end {
         let bar = enter(units, b, slots);
         let y = load(roots, ITEM_CELLS * b + 4 * carry);
         let lo = BAR_UNITS * (b as u32);
-        b += 1;
-        let v = load(vectors, 4 * b);
+        let v = load(vectors, 4 * (b + 1));
         let built = build(
             plan,
             units,
@@ -118,13 +104,13 @@ fn build_bars<'a>(
 
 // Builds the bars from bar `from` on that are before bar `end`, where no least tree carries anything into the first of them or on from the
 // last: with n bytes before them; gives the number of bytes.
-pub fn commit<'a>(
-    plan: &'a Plan,
-    units: &'a PackedUnits,
+pub fn commit(
+    plan: &Plan,
+    units: &PackedUnits,
     rows: &mut [u64],
     tree: &mut [u8],
     vectors: &mut [u64],
-    roots: &'a [u64],
+    roots: &[u64],
     start: usize,
     from: usize,
     end: usize,

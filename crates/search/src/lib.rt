@@ -2,9 +2,7 @@
 // suffix costs behind them from the last of these bars to the first, and then their trees from the first to the last.
 #![tactic(auto)]
 
-ghost use Rattle.std.specs.Prelude.{◌≡◌, ◌≤◌, length, take};
-ghost use Rattle.slices.specs.Over.{over};
-ghost use Rattle.slices.specs.Filled.{Filled};
+ghost use Rattle.std.specs.Prelude.{◌≡◌};
 ghost use Rattle.sheet.specs.Sheet.{Sheet};
 ghost use Rattle.sizes.specs.Sizes.{lengths_of};
 ghost use Rattle.sizes.specs.Held.{length_table};
@@ -28,38 +26,26 @@ const ROOT_CELLS: usize = ITEM_CELLS * BARS_MOST;
 // The cells of the suffix costs, four before each bar and four behind the last.
 const VECTOR_CELLS: usize = 4 * (BARS_MOST + 1);
 
-// What the search gives: there is no tree, or how many bytes the tree has and what it totals.
+// A tree that is found: how many bytes it has and what it totals.
 #[derive(Clone, Copy)]
-pub enum Found {
-    NoTree,
-    Tree { nodes: usize, total: u64 },
-}
-
-// Sets the first n cells to 0.
-fn clear(cells: &mut [u64], n: usize)
-    requires { n ≤ length cells.old }
-    ensures { Filled (λ _. 0) cells.old cells.new n }
-{
-    let mut i: usize = 0;
-    while i < n {
-        cells[i] = 0;
-        i += 1;
-    }
+pub struct Found {
+    pub nodes: usize,
+    pub total: u64,
 }
 
 // Finds the first least tree, bar after bar. Where nothing is carried over a bar line, the bars before it are built at once, while the
 // table has their rows.
-fn forward<'a>(
-    plan: &'a Plan,
-    units: &'a PackedUnits,
-    order: &'a Order,
+fn forward(
+    plan: &Plan,
+    units: &PackedUnits,
+    order: &Option<Order>,
     rows: &mut [u64],
     tree: &mut [u8],
     roots: &mut [u64],
     vectors: &mut [u64],
     start: usize,
     count: usize,
-) -> Found
+) -> Option<Found>
     requires { (s : Sheet) × ForwardPre s plan.now units.now order.now rows.old tree.old roots.old vectors.old start count }
     ensures { (s : Sheet)
         → ForwardPre s plan.now units.now order.now rows.old tree.old
@@ -69,13 +55,11 @@ fn forward<'a>(
     let mut v = only_at(0);
     let mut done: usize = 0;
     let mut next: usize = 0;
-    let mut b: usize = 0;
-    while b < count {
+    for b in 0..count {
         let bar = enter(units, b, slots);
         fill_bar(plan, units, order, rows, bar);
         let w = pass(plan, units, rows, roots, bar, start, v);
         v = w;
-        b += 1;
         if is_cut_point(plan, v) {
             next = commit(
                 plan,
@@ -86,15 +70,15 @@ fn forward<'a>(
                 &roots[..],
                 start,
                 done,
-                b,
+                b + 1,
                 next,
             );
-            done = b;
+            done = b + 1;
         }
     }
     let total = v[0];
     if total >= NONE {
-        return Found::NoTree;
+        return None;
     }
     let nodes = commit(
         plan,
@@ -108,37 +92,24 @@ fn forward<'a>(
         count,
         next,
     );
-    Found::Tree { nodes, total }
-}
-
-// Copies the first n bytes.
-pub fn copy(from: &[u8], to: &mut [u8], n: usize)
-    requires { (n ≤ length from.now) × (n ≤ length to.old) }
-    ensures { to.new ≡ over (take n from.now) to.old }
-{
-    let mut k: usize = 0;
-    while k < n {
-        to[k] = from[k];
-        k += 1;
-    }
+    Some(Found { nodes, total })
 }
 
 // Finds the first least tree, with so many rows as the sheet needs. It is made aside and copied, since a tree that is not found leaves the
 // tree slice as it is.
-fn parse<'a>(
-    plan: &'a Plan,
-    units: &'a PackedUnits,
+fn parse(
+    plan: &Plan,
+    units: &PackedUnits,
     rows: &mut [u64],
     tree: &mut [u8],
     start: usize,
     count: usize,
-) -> Found
+) -> Option<Found>
     requires { (s : Sheet) × ParsePre s plan.now units.now rows.old tree.old start count }
     ensures { (s : Sheet) → ParsePre s plan.now units.now rows.old tree.old start count
         → FoundAs s tree.old tree.new result }
 {
-    let n = rows.len();
-    clear(rows, n);
+    rows.fill(0);
     let mut roots = [0u64; ROOT_CELLS];
     let mut vectors = [0u64; VECTOR_CELLS];
     let mut bytes = [0u8; TREE_BYTES_MOST];
@@ -153,14 +124,9 @@ fn parse<'a>(
         &mut vectors,
         start,
         count,
-    );
-    match found {
-        Found::NoTree => Found::NoTree,
-        Found::Tree { nodes, total } => {
-            copy(&bytes, tree, nodes);
-            Found::Tree { nodes, total }
-        }
-    }
+    )?;
+    tree[..found.nodes].copy_from_slice(&bytes[..found.nodes]);
+    Some(found)
 }
 
 // Finds the first least tree of a sheet, whose lengths are known, and writes it to the front of the tree slice. The required cells of the
@@ -171,7 +137,7 @@ pub fn least_tree(
     reached: LengthTable,
     tree: &mut [u8],
     work: &mut [u64],
-) -> Found
+) -> Option<Found>
     requires { (s : Sheet) × SearchPre s grammar playing tree.old work.old × (reached ≡ length_table (lengths_of s.grammar.rules)) }
     ensures { (s : Sheet) → SearchPre s grammar playing tree.old work.old
         → reached ≡ length_table (lengths_of s.grammar.rules)
@@ -184,6 +150,6 @@ pub fn least_tree(
     let count = playing.bars as usize;
     let cells = row_cells(&plan, most_in_bar(playing));
     let found = parse(&plan, &units, &mut work[..cells], tree, start, count);
-    clear(work, cells + ITEM_CELLS * count);
+    work[..cells + ITEM_CELLS * count].fill(0);
     found
 }

@@ -1,7 +1,7 @@
--- What `read`'s contract says of bar lines and units: where it gives 0 the bar lines are those of the text (`bar_lines_read`), and there is
+-- What `read`'s contract says of bar lines and units: where it accepts the bar lines are those of the text (`bar_lines_read`), and there is
 -- an onset for each `4E` line of the text, in order, each at the unit nearest to its share of its bar (`units_read`), which in a plain
 -- sheet is the unit nearest to its line's time (`plain_units_read`).
-use Rattle.std.specs.Prelude.{ℕ, zero, suc, ◌+◌, ◌-◌, ◌*◌, ◌≤◌, ◌<◌, ◌≡◌, Bool, false, length, get_or}
+use Rattle.std.specs.Prelude.{ℕ, zero, suc, ◌+◌, ◌-◌, ◌*◌, ◌≤◌, ◌<◌, ◌≡◌, Bool, false, length, get_or, Ok}
 use Rattle.std.proofs.Math.Path.{refl, ap}
 use Rattle.std.proofs.Common.{sym, ◌∙◌, arith}
 use Rattle.std.proofs.Math.Bool.{cond}
@@ -16,12 +16,11 @@ use Rattle.hextext.specs.Text.{lines}
 use Rattle.sheet.specs.declared.clock.Micros.{Micros}
 use Rattle.sheet.specs.declared.table.Reading.{Reading}
 use Rattle.sheet.specs.Sheet.{Onset, Timing, TimedSheet, unit_of, line_at, lasting, end_of, unit_in, even_lines}
-use Rattle.sheet.specs.Outcome.{Outcome, refused, accepted}
+use Rattle.sheet.specs.Outcome.{Outcome, refused, accepted, accepted_not_refused, accepted_value}
 use Rattle.sheet.specs.Reading.{byte, four, is_tapped, even_of, onset_of, read_sheet}
-use Rattle.sheet.specs.Held.{micros, units, units_of, playing_table, timing_table, reading_of, Reads}
+use Rattle.sheet.specs.Held.{micros, units, units_of, playing_table, timing_table, tables, reading_of, Reads}
 use Rattle.sheet.specs.Good.{GoodTiming}
 use Rattle.sheet.proofs.GoodLaws.{good, good_timing}
-use Rattle.sheet.specs.Bounds.{refused_within}
 use Rattle.sheet.specs.Nearest.{NearestUnit, unit_nearest}
 use Rattle.sheet.proofs.BarLines.{InBar, bar_of_lem, unit_at_lem, lasts, rises}
 use Rattle.sheet.proofs.EvenLines.{even_count, even_at, even_unit}
@@ -42,7 +41,7 @@ held_line [] i = refl
 held_line (l ∷ ls) zero = refl
 held_line (l ∷ ls) (suc i) = held_line ls i
 
-module _ (text : List ℕ) (x : TimedSheet) (e : read_sheet text ≡ accepted x) (r : Reading) (is : r ≡ reading_of (accepted x)) where
+module _ (text : List ℕ) (x : TimedSheet) (e : read_sheet text ≡ accepted x) (r : Reading) (is : r ≡ tables x) where
   abbrev ls : List (List ℕ)
   ls = onset_lines (lines text)
 
@@ -59,15 +58,15 @@ module _ (text : List ℕ) (x : TimedSheet) (e : read_sheet text ≡ accepted x)
   as_many = ap length (onsets_read text x e) ∙ length-map ls (onset_of x.timing)
 
   count_is : r.playing.count ≡ length ls
-  unfolding reading_of playing_table
+  unfolding tables playing_table
   count_is = ap (λ (y : Reading). y.playing.count) is ∙ as_many
 
   bars_are : r.playing.bars ≡ bars
-  unfolding reading_of playing_table
+  unfolding tables playing_table
   bars_are = ap (λ (y : Reading). y.playing.bars) is
 
   unit_is : (i : ℕ) → i < length ls → unit_at r i ≡ unit_in x.timing (time_at text i)
-  unfolding reading_of playing_table
+  unfolding tables playing_table
   unit_is i h =
       let most = (good text x e).onsets.most in
       ap (λ (y : Reading). unit_at y i) is
@@ -76,7 +75,7 @@ module _ (text : List ℕ) (x : TimedSheet) (e : read_sheet text ≡ accepted x)
       ∙ unit_at_line x.timing ls i h
 
   line_is : (i : ℕ) → bar_line_at r i ≡ line_at x.timing i
-  unfolding reading_of timing_table
+  unfolding tables timing_table
   line_is i =
       ap (λ (y : Reading). bar_line_at y i) is ∙ ap (λ m. m.0) (go (dec_le (i + 1) 65)) ∙ held_line x.timing.bar_lines i
     where
@@ -164,17 +163,13 @@ module _ (text : List ℕ) (x : TimedSheet) (e : read_sheet text ≡ accepted x)
         (unit_nearest (four l 2) (time_at text i) lasting-some)
 
 -- of a reading
-module _ (text : List ℕ) (r : Reading) (e : Reads text r) (z : r.number ≡ 0) where
-  accepted_as : (x : TimedSheet) × (read_sheet text ≡ accepted x) × (r ≡ reading_of (accepted x))
-  unfolding reading_of
+module _ (text : List ℕ) (r : Reading) (e : Reads text (Ok r)) where
+  accepted_as : (x : TimedSheet) × (read_sheet text ≡ accepted x) × (r ≡ tables x)
   accepted_as = go (read_sheet text) refl
     where
-      go : (o : Outcome TimedSheet) → read_sheet text ≡ o
-          → (x : TimedSheet) × (read_sheet text ≡ accepted x) × (r ≡ reading_of (accepted x))
-      go (refused k n) q =
-          let number : r.number ≡ k = ap (λ (y : Reading). y.number) (e ∙ ap reading_of q) in
-          absurd (let m = (refused_within text k n q).0 in omega (arith, number, z))
-      go (accepted x) q = (x, q, e ∙ ap reading_of q)
+      go : (o : Outcome TimedSheet) → read_sheet text ≡ o → (x : TimedSheet) × (read_sheet text ≡ accepted x) × (r ≡ tables x)
+      go (refused k n) q = absurd (accepted_not_refused (e ∙ ap reading_of q))
+      go (accepted x) q = (x, q, accepted_value (e ∙ ap reading_of q))
 
   pub units_read : UnitsRead text r
   units_read = let (x, q, is) = accepted_as in units_of_accepted text x q r is

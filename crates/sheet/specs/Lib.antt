@@ -1,5 +1,6 @@
 pub mod Sheet
 pub mod Outcome
+pub mod Refusal
 pub mod Reading
 pub mod Clock
 pub mod Nearest

@@ -12,7 +12,9 @@ use Rattle.hextext.specs.Laws.{lines_first, lines_small}
 use Rattle.hextext.specs.PackedLaws.{line_bad, line_good, line_next}
 use Rattle.hextext.specs.OnePass.{unless_bad, read_text, text_end, text_bad, text_on, text_stop}
 use Rattle.sheet.specs.Sheet.{TimedSheet}
+use Rattle.sheet.specs.declared.refusal.Stop.{Stop}
 use Rattle.sheet.specs.Outcome.{Outcome, refused}
+use Rattle.sheet.specs.Refusal.{number_of}
 use Rattle.sheet.specs.Reading.{Progress, nothing, refusal, after, read_lines, read_sheet}
 use Rattle.sheet.specs.Held.{LineHeld}
 use Rattle.sheet.specs.Laws.{read_on, read_stop, ill_formed, well_formed}
@@ -25,6 +27,12 @@ read_rest r n t = read_text (refused 2) n (read_lines r n) t
 -- refusal k at line n, the first of the rest of a text: a bad line there or behind it goes before
 abbrev pub stopped : (k n : ℕ) → List ℕ → Outcome TimedSheet
 stopped k n t = read_text (refused 2) n (λ _. refused k n) t
+
+-- a text t that comes to o is refused where reading stops: the line is numbered from 1, and starts at the place that is told
+pub record Stopped (t : List ℕ) (o : Outcome TimedSheet) (e : Stop) : Type 0 where
+  pub is : o ≡ stopped (number_of e.refusal) e.line (drop e.at t)
+  pub place : e.line ≤ e.at + 1
+  pub numbered : 0 < e.line
 
 -- the whole text
 pub whole : (t : List ℕ) → 0 < length t → length t ≤ 16384 → read_sheet t ≡ read_rest nothing 1 t

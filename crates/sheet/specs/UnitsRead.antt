@@ -1,4 +1,4 @@
--- What `read`'s contract says of bar lines and units: where it gives 0 the bar lines are those of the text (`bar_lines_read`), and there is
+-- What `read`'s contract says of bar lines and units: where it accepts the bar lines are those of the text (`bar_lines_read`), and there is
 -- an onset for each `4E` line of the text, in order, each at the unit nearest to its share of its bar (`units_read`), which in a plain
 -- sheet is the unit nearest to its line's time (`plain_units_read`).
 use Rattle.std.specs.Prelude.{ℕ, ◌+◌, ◌-◌, ◌*◌, ◌≤◌, ◌<◌, ◌≡◌, length, get_or}

@@ -1,4 +1,5 @@
 // How much a sheet has at most, by documents 01 and 02, and the arrays that have room for it.
+use crate::clock::Micros;
 
 // The most bytes of a text.
 pub const TEXT_MOST: usize = 16384;
@@ -27,8 +28,8 @@ pub const BARS_MOST: usize = 64;
 // The most bar lines of a playing: one begins each bar, and one more closes the last.
 pub const BAR_LINES_MOST: usize = BARS_MOST + 1;
 
-// The moments of bar lines where they are lent, in microseconds: a reference to an array of structs is not covered.
-pub type BarLines = [u32; BAR_LINES_MOST];
+// The moments of the bar lines of a playing.
+pub type BarLines = [Micros; BAR_LINES_MOST];
 
 // The shortest bar and the longest, in microseconds.
 pub const BAR_SHORTEST: u32 = 1000;

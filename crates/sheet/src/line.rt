@@ -23,29 +23,12 @@ pub fn byte_at(l: Line, i: usize) -> u8
     ((l.front >> (8 * (LAST_BYTE - i))) % 256) as u8
 }
 
-// A byte, in the width of a field.
-fn wide(x: u8) -> u32
-    ensures { (result ≡ x) × (result < 256) }
-{
-    x as u32
-}
-
-// A field of two bytes, in its own width.
-pub fn narrow(x: u32) -> u16
-    requires { x < 65536 }
-    ensures { result ≡ x }
-{
-    x as u16
-}
-
 // The number of two bytes of a line, from byte i on.
-pub fn two_at(l: Line, i: usize) -> u32
+pub fn two_at(l: Line, i: usize) -> u16
     requires { i < 7 }
-    ensures { (result < 65536) × ((b : List ℕ) → LineHeld l b → result ≡ two b i) }
+    ensures { (b : List ℕ) → LineHeld l b → result ≡ two b i }
 {
-    let high = wide(byte_at(l, i));
-    let low = wide(byte_at(l, i + 1));
-    high * 256 + low
+    u16::from_be_bytes([byte_at(l, i), byte_at(l, i + 1)])
 }
 
 // The number of four bytes of a line, from byte i on: of a line of at most eight, in which these are, it is one part of its number.
@@ -53,12 +36,8 @@ pub fn four_at(l: Line, i: usize) -> u32
     requires { i < 5 }
     ensures { (b : List ℕ) → LineHeld l b → result ≡ four b i }
 {
-    if l.count <= NUMBER_BYTES {
-        if i + 4 <= l.count {
-            return ((l.tail >> (8 * (l.count - i - 4))) % 4294967296) as u32;
-        }
+    if l.count <= NUMBER_BYTES && i + 4 <= l.count {
+        return ((l.tail >> (8 * (l.count - i - 4))) % 4294967296) as u32;
     }
-    let high = two_at(l, i);
-    let low = two_at(l, i + 2);
-    high * 65536 + low
+    u32::from(two_at(l, i)) * 65536 + u32::from(two_at(l, i + 2))
 }

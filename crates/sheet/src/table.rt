@@ -1,6 +1,9 @@
 // A sheet as the code holds it.
-use crate::clock::{Micros, Units};
-use crate::limits::{BAR_LINES_MOST, Children, ONSETS_MOST, Pitches, RULES_MOST};
+ghost use Rattle.std.specs.Prelude.{◌≡◌};
+ghost use Rattle.sheet.specs.Held.{weight_in};
+
+use crate::clock::Units;
+use crate::limits::{BarLines, Children, ONSETS_MOST, Pitches, RULES_MOST};
 
 // A rule: a division or a leaf, each with its own fields. The nonterminals of a division's parts stand in a flat array beside it.
 #[derive(Clone, Copy)]
@@ -9,10 +12,14 @@ pub enum Rule {
     Leaf { head: u8, weight: u16, n: u8 },
 }
 
-// An array holds a rule in a struct: an array of enums is not covered as a struct's field.
-#[derive(Clone, Copy)]
-pub struct RuleCell {
-    pub rule: Rule,
+impl Rule {
+    pub fn weight(self) -> u16
+        ensures { result ≡ weight_in self }
+    {
+        match self {
+            Rule::Division { weight, .. } | Rule::Leaf { weight, .. } => weight,
+        }
+    }
 }
 
 // The grammar: `count` rules from the front of `rules`, and the nonterminals of their parts. Places left are zero.
@@ -22,7 +29,7 @@ pub struct GrammarTable {
     pub start: u8,
     pub multiplier: u16,
     pub count: usize,
-    pub rules: [RuleCell; RULES_MOST],
+    pub rules: [Rule; RULES_MOST],
     pub children: Children,
 }
 
@@ -39,14 +46,12 @@ pub struct PlayingTable {
 // beside the sheet, which has musical time alone.
 #[derive(Clone, Copy)]
 pub struct TimingTable {
-    pub lines: [Micros; BAR_LINES_MOST],
+    pub lines: BarLines,
 }
 
-// What reading gives: a refusal with its number and its line, and zeros elsewhere; or number 0, line 0, the timing and the sheet.
+// What reading gives of a text that it accepts: the timing and the sheet.
 #[derive(Clone, Copy)]
 pub struct Reading {
-    pub number: u8,
-    pub line: usize,
     pub timing: TimingTable,
     pub grammar: GrammarTable,
     pub playing: PlayingTable,

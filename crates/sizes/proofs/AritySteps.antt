@@ -10,7 +10,7 @@ use lib.Seq.{take-suc, take_all}
 use Rattle.slices.specs.Every.{every_in}
 use Rattle.slices.specs.Pad.{get_or-pad}
 use Rattle.sheet.specs.declared.table.GrammarTable.{GrammarTable}
-use Rattle.sheet.specs.declared.table.Rule.TheVariants.{Division, Leaf}
+use Rattle.sheet.specs.declared.table.Rule.TheVariants.{Division}
 use Rattle.sheet.specs.Sheet.{Rule, division, leaf, Grammar}
 use Rattle.sheet.specs.Held.{grammar_table, rule_cell, no_rule}
 use Rattle.sheet.specs.Good.{GoodRule, GoodRules}
@@ -59,32 +59,22 @@ module _ (g : GrammarTable) (flags : List Bool) (i : ℕ) (so_far : FlagsOf g fl
           good_rule = every_in (GoodRule h.nonterminals) h.rules i zero_rule l good.rules;
         }
 
-    -- a division
-    module _ (head weight arity : ℕ) (is : (get_or g.rules i no_rule).rule ≡ Division head weight arity) where
-      -- with an arity below 9
-      pub flags_set : arity < 9 → FlagsOf g (set flags arity true) (i + 1)
-      flags_set m h good e = go (get_or h.rules i zero_rule) (rule_at_lem h good e)
-        where
-          go : (r : Rule) → RuleAt g h i r → set flags arity true ≡ arity_flags (take (i + 1) h.rules)
-          go (division u v ks) n =
-              let a : length ks ≡ arity = cc (is, n.cell) in
-              rw (n.front, ← a, so_far h good e) (flags_division (take i h.rules) u v ks (omega arith))
-          go (leaf u v k) n = let z : ◌≡◌ {A = ℕ} 0 1 = cc (is, n.cell) in absurd (omega arith)
+    -- a division with an arity below 9
+    pub flags_set : (head weight arity : ℕ) → get_or g.rules i no_rule ≡ Division head weight arity → arity < 9
+        → FlagsOf g (set flags arity true) (i + 1)
+    flags_set head weight arity is m h good e = go (get_or h.rules i zero_rule) (rule_at_lem h good e)
+      where
+        go : (r : Rule) → RuleAt g h i r → set flags arity true ≡ arity_flags (take (i + 1) h.rules)
+        go (division u v ks) n =
+            let a : length ks ≡ arity = cc (is, n.cell) in
+            rw (n.front, ← a, so_far h good e) (flags_division (take i h.rules) u v ks (omega arith))
+        go (leaf u v k) n = let z : ◌≡◌ {A = ℕ} 0 1 = cc (is, n.cell) in absurd (omega arith)
 
-      -- with another, which no good grammar has
-      pub flags_large : 9 ≤ arity → FlagsOf g flags (i + 1)
-      flags_large m h good e = go (get_or h.rules i zero_rule) (rule_at_lem h good e)
-        where
-          go : (r : Rule) → RuleAt g h i r → flags ≡ arity_flags (take (i + 1) h.rules)
-          go (division u v ks) n =
-              let a : length ks ≡ arity = cc (is, n.cell) in
-              absurd (omega (arith, n.good_rule.eight))
-          go (leaf u v k) n = let z : ◌≡◌ {A = ℕ} 0 1 = cc (is, n.cell) in absurd (omega arith)
-
-    -- a leaf
-    pub flags_kept : (head weight n : ℕ) → (get_or g.rules i no_rule).rule ≡ Leaf head weight n → FlagsOf g flags (i + 1)
-    flags_kept head weight n is h good e = go (get_or h.rules i zero_rule) (rule_at_lem h good e)
+    -- a leaf, or a division with another arity, which no good grammar has
+    pub flags_kept : ((head weight arity : ℕ) → get_or g.rules i no_rule ≡ Division head weight arity → arity < 9 → ⊥)
+        → FlagsOf g flags (i + 1)
+    flags_kept other h good e = go (get_or h.rules i zero_rule) (rule_at_lem h good e)
       where
         go : (r : Rule) → RuleAt g h i r → flags ≡ arity_flags (take (i + 1) h.rules)
-        go (division u v ks) n = let z : ◌≡◌ {A = ℕ} 0 1 = cc (is, n.cell) in absurd (omega arith)
+        go (division u v ks) n = absurd (other u v (length ks) n.cell (omega (arith, n.good_rule.eight)))
         go (leaf u v k) n = rw (n.front, so_far h good e) (flags_leaf (take i h.rules) u v k)

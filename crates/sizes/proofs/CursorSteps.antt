@@ -3,6 +3,9 @@ use Prim.Native.Nat.{ℕ, ◌+◌, ◌*◌, ◌<◌, ◌≤◌}
 use mathlib.Core.Path.{◌≡◌, refl, sym, ap, ◌∙◌}
 use mathlib.Core.Bool.{true, false}
 use mathlib.Core.List.{List}
+use borrow.Author.Tests.{eq-eqb, ne_eqb}
+use lib.Dec.{eqb}
+use Rattle.std.proofs.Math.Decide.{ℕ_discrete}
 use native.Mathlib.Decide.{dec_lt}
 use native.Mathlib.Nat.{mul-le-mul, mul-le-mul_left}
 use native.Mathlib.Omega.{arith}
@@ -78,7 +81,7 @@ module _ (cells : List ℕ) (count d : ℕ) (at : List ℕ) (cursors : Cursors c
       cell_at j l = ap (λ (c : List ℕ). get_or c j 0) lengths.held ∙ get_or-pad 84 0 xs j (omega arith)
 
       -- the cell there is k times d
-      pub among_here : i < count → get_or cells i 0 ≡ k * d → true ≡ member (k * d) xs
+      among_here : i < count → get_or cells i 0 ≡ k * d → true ≡ member (k * d) xs
       among_here l e =
           sym (ap (λ (x : ℕ). member x xs) (sym e ∙ cell_at i l) ∙ member_at xs i (omega (arith, lengths.counted)))
 
@@ -98,3 +101,10 @@ module _ (cells : List ℕ) (count d : ℕ) (at : List ℕ) (cursors : Cursors c
                       | no p ↦ let same : j ≡ i = omega arith in n (omega arith) (rw (← same) (cell_at j within ∙ e))
                     ]
               ]
+
+      -- it is if and only if it equals it
+      pub among_told : i < count → eqb (get_or cells i 0) (k * d) ≡ member (k * d) xs
+      among_told l = elim (ℕ_discrete (get_or cells i 0) (k * d)) [
+        | yes e ↦ eq-eqb _ _ e ∙ among_here l e
+        | no n ↦ ne_eqb _ _ n ∙ among_none (λ _. n)
+      ]

@@ -49,27 +49,11 @@ fn arities(g: GrammarTable) -> [bool; ARITY_CELLS]
     ensures { (h : Grammar) → GoodRules h → g ≡ grammar_table h → result ≡ arity_flags h.rules }
 {
     let mut flags = [false; ARITY_CELLS];
-    let n = g.count;
-    let mut i: usize = 0;
-    while i < n {
-        let cell = g.rules[i];
-        let rule = cell.rule;
-        i += 1;
-        match rule {
-            Rule::Division {
-                head: _,
-                weight: _,
-                arity,
-            } => {
-                if arity < 9 {
-                    flags[arity as usize] = true;
-                }
-            }
-            Rule::Leaf {
-                head: _,
-                weight: _,
-                n: _,
-            } => {}
+    for i in 0..g.count {
+        if let Rule::Division { arity, .. } = g.rules[i]
+            && arity < 9
+        {
+            flags[arity as usize] = true;
         }
     }
     flags
@@ -80,13 +64,10 @@ pub fn first_at_most(cells: &LengthCells, count: usize, from: usize, x: Units) -
     requires { (count ≤ 84) × (from ≤ count) }
     ensures { FirstAtMost cells.now count from x.0 result }
 {
-    let mut i = from;
-    while i < count {
-        let y = cells[i];
-        if y <= x.0 {
+    for i in from..count {
+        if cells[i] <= x.0 {
             return i;
         }
-        i += 1;
     }
     count
 }
@@ -100,13 +81,7 @@ fn is_among(cells: &LengthCells, at: &mut Cursors, count: usize, k: usize, d: Un
     let x = (k as u32) * d.0;
     let i = first_at_most(cells, count, at[k], Units(x));
     at[k] = i;
-    if i < count {
-        let y = cells[i];
-        if y == x {
-            return true;
-        }
-    }
-    false
+    i < count && cells[i] == x
 }
 
 // Whether d is the whole bar, or some arity times d is among the first `count` cells. For each arity k that is looked at, at[k] moves on.
@@ -123,15 +98,9 @@ fn is_reached(
     if d.0 == BAR_UNITS {
         return true;
     }
-    let mut next: usize = 2;
-    while next < 9 {
-        let k = next;
-        let used = flags[k];
-        next += 1;
-        if used {
-            if is_among(cells, at, count, k, d) {
-                return true;
-            }
+    for k in 2..ARITY_CELLS {
+        if flags[k] && is_among(cells, at, count, k, d) {
+            return true;
         }
     }
     false
@@ -146,10 +115,8 @@ pub fn lengths(g: GrammarTable) -> LengthTable
     let mut at = [0usize; ARITY_CELLS];
     let mut cells = [0u32; LENGTHS_MOST];
     let mut count: usize = 0;
-    let mut j: usize = 0;
-    while j < LENGTHS_MOST {
+    for j in 0..LENGTHS_MOST {
         let d = divisor(j);
-        j += 1;
         if is_reached(flags, &cells, &mut at, count, d) {
             cells[count] = d.0;
             count += 1;
@@ -163,23 +130,17 @@ pub fn most_in_bar(p: PlayingTable) -> usize
     requires { p.count ≤ 512 }
     ensures { (result ≤ 512) × ((q : Playing) → GoodOnsets q → p ≡ playing_table q → result ≡ most_in_bar q) }
 {
-    let n = p.count;
     let mut most: usize = 0;
     let mut run: usize = 0;
     let mut bar: u32 = 0;
-    let mut i: usize = 0;
-    while i < n {
-        let unit = p.units[i];
-        let b = unit.0 / BAR_UNITS;
-        i += 1;
+    for i in 0..p.count {
+        let b = p.units[i].0 / BAR_UNITS;
         if b != bar {
             run = 0;
             bar = b;
         }
         run += 1;
-        if most < run {
-            most = run;
-        }
+        most = most.max(run);
     }
     most
 }

@@ -4,10 +4,12 @@ use Rattle.std.specs.Float.{fin, binary64}
 use Rattle.std.specs.Float.Ieee.{mul, sub, div, of_int, to_bits}
 use Rattle.sheet.specs.Literal.{text_of}
 use Rattle.sheet.specs.Cases.{grammar_s}
+use Rattle.sheet.specs.Outcome.{Outcome, number_in, line_in, value_in}
 use Rattle.sheet.specs.Reading.{read_sheet}
 use Rattle.tempo.specs.declared.between.Tempo.TheVariants.{Steady, Faster, Slower}
 use Rattle.tempo.specs.declared.remark.Remark.{Remark}
-use Rattle.tempo.specs.Tempo.{hundred, in_range, percent_of, tempo_of, kind_of, record_of, record_at, record_text, remark_of}
+use Rattle.tempo.specs.Tempo.{hundred, in_range, percent_of, tempo_of, kind_of, record_of, record_at, record_text}
+use Rattle.tempo.specs.Tempo.{no_remark, remark_of}
 
 -- the case of two durations, and the bits of the percentage
 abbrev pub cells : (a1 a2 : ℕ) → List ℕ
@@ -75,10 +77,11 @@ rushing =
     grammar_s
     ++ text_of "450400000000\n42004C4B40\n42006ACFC0\n420087CDA0\n4200A4CB80\n4200C1C9C4\n4E004C4B403C40\n"
 
--- the number, the line, the case, the durations and the percentage's bits of a remark
-abbrev pub remark_cells : Remark → List ℕ
-remark_cells r =
-    r.number ∷ r.line ∷ kind_of r.tempo ∷ r.bar.duration ∷ r.bar.next ∷ to_bits binary64 r.bar.percentage ∷ []
+-- the number, the line, the case, the durations and the percentage's bits of what is given
+abbrev pub remark_cells : Outcome Remark → List ℕ
+remark_cells o =
+    let r = value_in no_remark o in
+    number_in o ∷ line_in o ∷ kind_of r.tempo ∷ r.bar.duration ∷ r.bar.next ∷ to_bits binary64 r.bar.percentage ∷ []
 
 abbrev pub remark_at : (text : List ℕ) → (i : ℕ) → List ℕ
 remark_at text i = remark_cells (remark_of (record_text text i))
@@ -91,9 +94,9 @@ pub rushing_remarks : map (remark_at rushing) (0 ∷ 1 ∷ 2 ∷ 3 ∷ 4 ∷ [])
     ∷ (0 ∷ 0 ∷ 0 ∷ 0 ∷ 0 ∷ 0 ∷ [])
     ∷ (0 ∷ 0 ∷ 0 ∷ 0 ∷ 0 ∷ 0 ∷ [])
     ∷ []
-unfolding read_sheet record_at record_text remark_of in_range percent_of mul sub div of_int to_bits
+unfolding read_sheet record_at record_text in_range percent_of mul sub div of_int to_bits
 rushing_remarks = refl
 
 refused_remark : remark_at (text_of "4G\n") 0 ≡ 2 ∷ 1 ∷ 0 ∷ 0 ∷ 0 ∷ 0 ∷ []
-unfolding read_sheet record_at record_text remark_of in_range to_bits
+unfolding read_sheet record_at record_text in_range to_bits
 refused_remark = refl

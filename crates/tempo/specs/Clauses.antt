@@ -1,5 +1,5 @@
 -- What the functions over bar lines are given: the bar lines of an accepted sheet as reading holds them (`accepted_timing`).
-use Rattle.std.specs.Prelude.{ℕ, ◌+◌, ◌-◌, ◌≤◌, ◌<◌, ◌≡◌, refl, List, map, get_or}
+use Rattle.std.specs.Prelude.{ℕ, ◌+◌, ◌-◌, ◌≤◌, ◌<◌, ◌≡◌, refl, List, map, get_or, Ok}
 use Rattle.std.proofs.Math.Path.{ap}
 use Rattle.std.proofs.Common.{◌∙◌, arith}
 use Rattle.std.proofs.Math.ListN.{get_or-map}
@@ -8,12 +8,11 @@ use Rattle.sheet.specs.declared.clock.Micros.{Micros}
 use Rattle.sheet.specs.declared.table.TimingTable.{TimingTable}
 use Rattle.sheet.specs.declared.table.Reading.{Reading}
 use Rattle.sheet.specs.Sheet.{Timing, TimedSheet, line_at, lasting}
-use Rattle.sheet.specs.Outcome.{Outcome, refused, accepted}
+use Rattle.sheet.specs.Outcome.{Outcome, refused, accepted, accepted_not_refused, accepted_value}
 use Rattle.sheet.specs.Reading.{read_sheet}
-use Rattle.sheet.specs.Held.{micros, playing_table, timing_table, reading_of, Reads}
+use Rattle.sheet.specs.Held.{micros, playing_table, timing_table, tables, reading_of, Reads}
 use Rattle.sheet.specs.Good.{GoodTiming}
 use Rattle.sheet.proofs.GoodLaws.{good, good_timing}
-use Rattle.sheet.specs.Bounds.{refused_within}
 
 -- the moment at place i of the bar lines
 abbrev pub moment_in : TimingTable → (i : ℕ) → ℕ
@@ -33,16 +32,14 @@ pub record TimingRead (text : List ℕ) (r : Reading) : Type 0 where
   pub bars : r.playing.bars ≡ means.sheet.playing.bars
   pub timing : TimingHeld r.playing.bars means.timing r.timing
 
-pub accepted_timing : (text : List ℕ) (r : Reading) → Reads text r → r.number ≡ 0 → TimingRead text r
-unfolding reading_of playing_table
-accepted_timing text r e z = go (read_sheet text) refl
+pub accepted_timing : (text : List ℕ) (r : Reading) → Reads text (Ok r) → TimingRead text r
+unfolding tables playing_table
+accepted_timing text r e = go (read_sheet text) refl
   where
     go : (o : Outcome TimedSheet) → read_sheet text ≡ o → TimingRead text r
-    go (refused k n) q =
-        let h = ap (λ (x : Reading). x.number) (e ∙ ap reading_of q) in
-        absurd (let m = (refused_within text k n q).0 in omega (arith, h, z))
+    go (refused k n) q = absurd (accepted_not_refused (e ∙ ap reading_of q))
     go (accepted x) q =
-        let h : r ≡ reading_of (accepted x) = e ∙ ap reading_of q in
+        let h : r ≡ tables x = accepted_value (e ∙ ap reading_of q) in
         let same = ap (λ (y : Reading). y.playing.bars) h in
         let onsets = (good text x q).onsets in
         record {

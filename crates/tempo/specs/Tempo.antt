@@ -1,10 +1,12 @@
 -- How the tempo moves (document 02, (vii); source document 003, equation 18): from one duration to the next, and behind a bar of a sheet.
 -- Floats are IEEE 754's binary64, of which `lib.Ieee` has the operations, each rounded once. Durations are in microseconds.
-use Rattle.std.specs.Prelude.{ℕ, ◌+◌, ◌≡◌, Bool, false, cond, ◌&&◌, List, pos, leb, ltb, Float}
+use Rattle.std.specs.Prelude.{ℕ, ◌+◌, ◌≡◌, Bool, false, cond, ◌&&◌, List, pos, leb, ltb, Float, Result}
 use Rattle.std.specs.Float.{fin, binary64}
 use Rattle.std.specs.Float.Ieee.{of_int, div, sub, mul}
 use Rattle.sheet.specs.Sheet.{Timing, lasting}
-use Rattle.sheet.specs.Outcome.{Outcome, accepted, number_in, line_in, value_in, and_then}
+use Rattle.sheet.specs.declared.refusal.Refused.{Refused}
+use Rattle.sheet.specs.Outcome.{Outcome, accepted, and_then}
+use Rattle.sheet.specs.Refusal.{outcome_of, answer_value, on_value}
 use Rattle.sheet.specs.Reading.{shortest_bar, longest_bar, read_sheet}
 use Rattle.tempo.specs.declared.between.Tempo.{Tempo}
 use Rattle.tempo.specs.declared.between.Tempo.TheVariants.{Steady, Faster, Slower}
@@ -70,13 +72,24 @@ record_at bars timing i = cond (ltb (i + 1) bars) (record_of (lasting timing i) 
 unfoldable pub record_text : (text : List ℕ) → (i : ℕ) → Outcome TempoRecord
 record_text text i = and_then (read_sheet text) (λ x. accepted (record_at x.sheet.playing.bars x.timing i))
 
--- what is given for a text and i: number and line, the record, and the case of its two durations, which are 0 where there is none
-abbrev pub remark_with : (number line : ℕ) → TempoRecord → Remark
-remark_with k n bar = record { number = k; line = n; tempo = tempo_of bar.duration bar.next; bar = bar }
+-- what is given for a bar: its record, and the case of its two durations, which are 0 where there is none
+abbrev pub remark_with : TempoRecord → Remark
+remark_with bar = record { tempo = tempo_of bar.duration bar.next; bar = bar }
 
-unfoldable pub remark_of : Outcome TempoRecord → Remark
-remark_of o = remark_with (number_in o) (line_in o) (value_in no_record o)
+abbrev pub no_remark : Remark
+no_remark = remark_with no_record
+
+-- of a text
+abbrev pub remark_of : Outcome TempoRecord → Outcome Remark
+remark_of o = on_value remark_with o
+
+-- what is answered: a remark, or a refusal; and its remark, the case steady and zeros in a refusal
+abbrev pub Answer : Type 0
+Answer = Result Remark Refused
+
+abbrev pub remark_in : Answer → Remark
+remark_in r = answer_value no_remark r
 
 -- the promise of `remark_at`, for every text and every i
-abbrev pub Remarks : (text : List ℕ) → (i : ℕ) → Remark → Type 0
-Remarks text i r = r ≡ remark_of (record_text text i)
+abbrev pub Remarks : (text : List ℕ) → (i : ℕ) → Answer → Type 0
+Remarks text i r = outcome_of r ≡ remark_of (record_text text i)

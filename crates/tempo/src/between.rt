@@ -38,10 +38,7 @@ fn percentage(a1: Micros, a2: Micros) -> f64
 pub fn tempo_between(a1: Micros, a2: Micros) -> Tempo
     ensures { result ≡ tempo_of a1.0 a2.0 }
 {
-    if !in_range(a1) {
-        return Tempo::Steady;
-    }
-    if !in_range(a2) {
+    if !in_range(a1) || !in_range(a2) {
         return Tempo::Steady;
     }
     if a2.0 < a1.0 {
@@ -59,8 +56,7 @@ fn percentage_in(tempo: Tempo) -> f64
 {
     match tempo {
         Tempo::Steady => 0.0,
-        Tempo::Faster(p) => p,
-        Tempo::Slower(p) => p,
+        Tempo::Faster(p) | Tempo::Slower(p) => p,
     }
 }
 

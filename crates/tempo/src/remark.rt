@@ -1,50 +1,36 @@
 // The tempo remark behind a bar of a sheet.
 ghost use Rattle.std.specs.Prelude.{◌≡◌, ◌+◌, ◌-◌, ◌<◌, ◌≤◌};
 ghost use Rattle.sheet.specs.Sheet.{Timing};
-ghost use Rattle.sheet.specs.Outcome.{accepted};
-ghost use Rattle.tempo.specs.Tempo.{no_record, record_of, record_at, remark_with, remark_of, Remarks};
+ghost use Rattle.tempo.specs.Tempo.{record_of, record_at, remark_with, Remarks};
 ghost use Rattle.tempo.specs.Clauses.{moment_in, TimingHeld};
 
 use crate::between::{Tempo, TempoRecord, tempo_between, tempo_record};
-use sheet::{Micros, TimingTable};
+use sheet::{Micros, Refused, TimingTable};
 
-// What is given for a text and a bar: a refusal with its number and its line, steady and zeros elsewhere; or number 0, line 0, how the tempo
-// moves to the next bar, and the bar's record; steady and zeros where no bar follows.
+// What is given for a bar: how the tempo moves to the next bar, and the bar's record; steady and zeros where no bar follows.
 #[derive(Clone, Copy)]
 pub struct Remark {
-    pub number: u8,
-    pub line: usize,
     pub tempo: Tempo,
     pub bar: TempoRecord,
 }
 
-// No remark, for which there are three reasons: the text is refused, or the bar is the last, or there is no such bar.
-fn no_remark(number: u8, line: usize) -> Remark
-    ensures { result ≡ remark_with number line no_record }
-{
-    Remark {
-        number,
-        line,
-        tempo: Tempo::Steady,
-        bar: TempoRecord {
-            duration: 0,
-            next: 0,
-            percentage: 0.0,
-        },
-    }
-}
+// Where no bar follows: the bar is the last, or there is no such bar.
+const NO_REMARK: Remark = Remark {
+    tempo: Tempo::Steady,
+    bar: TempoRecord {
+        duration: 0,
+        next: 0,
+        percentage: 0.0,
+    },
+};
 
 // The remark behind a bar that lasts a1, before one that lasts a2.
 fn remark_between(a1: Micros, a2: Micros) -> Remark
-    ensures { result ≡ remark_with 0 0 (record_of a1.0 a2.0) }
+    ensures { result ≡ remark_with (record_of a1.0 a2.0) }
 {
-    let tempo = tempo_between(a1, a2);
-    let bar = tempo_record(a1, a2);
     Remark {
-        number: 0,
-        line: 0,
-        tempo,
-        bar,
+        tempo: tempo_between(a1, a2),
+        bar: tempo_record(a1, a2),
     }
 }
 
@@ -61,11 +47,11 @@ pub fn lasting(timing: TimingTable, b: usize) -> Micros
 // The remark behind bar i, from 0, of a sheet as it was read.
 pub fn remark_sheet(bars: u8, timing: TimingTable, i: usize) -> Remark
     requires { (t : Timing) × TimingHeld bars t timing }
-    ensures { (t : Timing) → TimingHeld bars t timing → result ≡ remark_of (accepted (record_at bars t i)) }
+    ensures { (t : Timing) → TimingHeld bars t timing → result ≡ remark_with (record_at bars t i) }
 {
     let last = (bars - 1) as usize;
     if last <= i {
-        return no_remark(0, 0);
+        return NO_REMARK;
     }
     let own = lasting(timing, i);
     let next = lasting(timing, i + 1);
@@ -73,15 +59,9 @@ pub fn remark_sheet(bars: u8, timing: TimingTable, i: usize) -> Remark
 }
 
 // The remark behind bar i, from 0, of the sheet that a text means, or the text's refusal.
-pub fn remark_at(text: &[u8], i: usize) -> Remark
+pub fn remark_at(text: &[u8], i: usize) -> Result<Remark, Refused>
     ensures { Remarks text.now i result }
 {
-    let r = reading::read(text);
-    let number = r.number;
-    if number != 0 {
-        return no_remark(number, r.line);
-    }
-    let playing = r.playing;
-    let timing = r.timing;
-    remark_sheet(playing.bars, timing, i)
+    let r = reading::read(text)?;
+    Ok(remark_sheet(r.playing.bars, r.timing, i))
 }

@@ -29,5 +29,4 @@ pub overflow_add-y-4 : goal.overflow_add-y-4
 overflow_add-y-4 c = omega (arith, c.requires.0 3, c.requires.1 3)
 
 pub returns : goal.returns
-returns c = lowest_four _ _ _ _ _ _ c.least-a.ensures c.least-b.ensures
-    c.least-c.ensures c.least.ensures
+returns c = lowest_four _ _ _ _ _ _ c.min.ensures c.min-2.ensures c.min-3.ensures c.min-4.ensures

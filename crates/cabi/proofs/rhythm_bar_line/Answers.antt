@@ -1,15 +1,14 @@
 -- `rhythm_bar_line` meets its contract: places behind the bar lines hold 0. Assumes nothing.
-use Rattle.cabi.proofs.Readings.{bar_line_is, bar_line_none}
+use mathlib.Core.Path.{ap}
+use Rattle.cabi.specs.Entries.{bar_line_of}
+use Rattle.cabi.proofs.Readings.{refusal_is, bar_line_is, bar_line_none}
 use Rattle.cabi.proofs.rhythm_bar_line.Goals as goal
 
+pub returns-in_default : goal.returns-in_default
+returns-in_default c = ap (λ o. bar_line_of o c.args.i) (refusal_is c.args.text.now c.in_default.field-0 c.in_default.ensures)
+
 pub returns-then-i-ge-BAR_LINES_MOST : goal.returns-then-i-ge-BAR_LINES_MOST
-returns-then-i-ge-BAR_LINES_MOST c =
-    let args = c.args in
-    bar_line_none args.text.now c.read-r.result c.read-r.ensures args.i c.if-i-ge-BAR_LINES_MOST.true
+returns-then-i-ge-BAR_LINES_MOST c = bar_line_none c.args.text.now c.args.i c.if-i-ge-BAR_LINES_MOST.true
 
 pub returns : goal.returns
-returns c =
-    let args = c.args in
-    let read = c.read-r in
-    let if1 = c.if-i-ge-BAR_LINES_MOST in
-    bar_line_is args.text.now read.result read.ensures args.i if1.false
+returns c = bar_line_is c.args.text.now c.in-Ok.r c.in-Ok.ensures c.args.i c.if-i-ge-BAR_LINES_MOST.false

@@ -1,23 +1,24 @@
 -- `rhythm_check` meets its contract: a refusal's line is small, so the two fit one number. Assumes nothing.
 use Prim.Native.Nat.{◌+◌, ◌*◌}
+use mathlib.Core.Path.{ap, ◌∙◌}
 use native.Mathlib.Omega.{arith}
-use Rattle.cabi.proofs.Readings.{number_is, line_is, line_small}
+use Rattle.cabi.specs.Entries.{check_of}
+use Rattle.cabi.proofs.Readings.{refusal_is, line_small, accepted_is}
 use Rattle.cabi.proofs.rhythm_check.Goals as goal
 
-pub overflow_cast-result-2 : goal.overflow_cast-result-2
-overflow_cast-result-2 c =
-    let args = c.args in
-    let read = c.read-r in
-    let m = line_small args.text.now read.result read.ensures in record { fits = omega arith }
+pub overflow_cast-result-in-Err : goal.overflow_cast-result-in-Err
+overflow_cast-result-in-Err c =
+    let m = line_small c.args.text.now c.in-Err.e c.in-Err.ensures in record { fits = omega (arith, m) }
 
 pub overflow_add-result : goal.overflow_add-result
 overflow_add-result c =
-    let args = c.args in
-    let read = c.read-r in
-    let m = line_small args.text.now read.result read.ensures in record { fits = omega arith }
+    let m = line_small c.args.text.now c.in-Err.e c.in-Err.ensures in
+    let byte = c.number.type_inv in
+    record { fits = omega (arith, m, byte) }
 
-pub returns : goal.returns
-returns c =
-    let args = c.args in
-    let read = c.read-r in
-    λ j. number_is args.text.now read.result read.ensures j * 65536 + line_is args.text.now read.result read.ensures j
+pub returns-in-Err : goal.returns-in-Err
+returns-in-Err c =
+    (λ j. c.number.ensures j * 65536 + c.in-Err.e.line) ∙ ap check_of (refusal_is c.args.text.now c.in-Err.e c.in-Err.ensures)
+
+pub returns-in-Ok : goal.returns-in-Ok
+returns-in-Ok c = accepted_is c.args.text.now c.in-Ok.field-0 c.in-Ok.ensures

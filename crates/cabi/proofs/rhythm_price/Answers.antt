@@ -4,7 +4,4 @@ use Rattle.cabi.specs.Entries.{answer_cells}
 use Rattle.cabi.proofs.rhythm_price.Goals as goal
 
 pub returns : goal.returns
-returns c =
-    let numbers = c.numbers-cells in
-    let price = c.price in
-    numbers.ensures ∙ ap answer_cells price.ensures
+returns c = c.numbers-cells.ensures ∙ ap answer_cells c.price.ensures

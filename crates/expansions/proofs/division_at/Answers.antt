@@ -11,6 +11,8 @@ use Rattle.trees.specs.Instance.{onsets_in}
 use Rattle.expansions.specs.Places.{first_most}
 use Rattle.expansions.proofs.PlaceSteps.{some_inside, none_inside}
 use borrow.Author.Rules.{rules}
+use Rattle.expansions.proofs.division_at.Goals.{then-k-eq0-via-then-k-eq0, then-k-eq0-via-else-k-eq0+then-over-k-ne0}
+use Rattle.expansions.proofs.division_at.Goals.{then-k-eq0-via-else-k-eq0+else-over-k-ne0+then-over-units}
 use Rattle.expansions.proofs.division_at.Goals as goal
 
 module _ (s : Sheet) (k left len : ℕ) where
@@ -27,10 +29,13 @@ module _ (s : Sheet) (k left len : ℕ) where
   allowed h i = rw (eq-eqb (len % k) 0 h, lt-ltb 0 (onsets_in s left len) i)
 
 pub returns-then-k-eq0 : goal.returns-then-k-eq0
-returns-then-k-eq0 c = λ s h z. absurd (z c.if-k-eq0.true)
-
-pub returns-then-over-k-ne0 : goal.returns-then-over-k-ne0
-returns-then-over-k-ne0 c = λ s h z. uneven s _ _ _ c.if-over-k-ne0.true
+returns-then-k-eq0 c =
+    elim c.then-k-eq0.branch [
+      | then-k-eq0-via-then-k-eq0 w ↦ λ s h some. absurd (some w.if-k-eq0.true)
+      | then-k-eq0-via-else-k-eq0+then-over-k-ne0 w ↦ λ s h some. uneven s _ _ _ w.if-over-k-ne0.true
+      | then-k-eq0-via-else-k-eq0+else-over-k-ne0+then-over-units w ↦
+          λ s h some. empty s _ _ _ (none_inside h (omega (arith, w.if-over-units.true)))
+    ]
 
 pub overflow_add-over : goal.overflow_add-over
 overflow_add-over c =
@@ -48,11 +53,6 @@ pub bounds-units-from : goal.bounds-units-from
 bounds-units-from c =
     let p = c.requires in
     omega (arith, p.1.first, first_most p.0 p.1.onsets.good c.args.over.left.0)
-
-pub returns-then-over-units : goal.returns-then-over-units
-returns-then-over-units c =
-    let if3 = c.if-over-units in
-    λ s h z. empty s _ _ _ (none_inside h (omega (arith, if3.true)))
 
 pub returns : goal.returns
 returns c =

@@ -6,7 +6,6 @@ use Rattle.trees.proofs.Laws.{lawful}
 use Rattle.trees.specs.ValidTrees.{rule_at}
 use Rattle.expansions.specs.RuleCells.{leaf_rule}
 use Rattle.expansions.proofs.ExpandSteps.{leaf_other, leaf_as, division_as, division_not}
-use borrow.Author.Rules.{rules}
 use Rattle.expansions.proofs.expand.Goals as goal
 
 pub returns-then-i-ge-RULES_MOST : goal.returns-then-i-ge-RULES_MOST
@@ -18,7 +17,7 @@ returns-then-i-ge-RULES_MOST c =
 pub returns-then-head-nonterminal : goal.returns-then-head-nonterminal
 returns-then-head-nonterminal c =
     let if1 = c.if-i-ge-RULES_MOST in
-    let rule_at_lem = c.rule_at-rule in
+    let rule_at_lem = c.rule_at in
     let if2 = c.if-head-nonterminal in
     λ s h. leaf_other s _ _ _ _ _ _ _ (leaf_rule (rule_at s c.args.r) _ _ _ (sym (h.rules.rules _ (omega (
       arith,
@@ -32,7 +31,7 @@ leaf_at-requires c =
 pub returns-then-head-nonterminal-2 : goal.returns-then-head-nonterminal-2
 returns-then-head-nonterminal-2 c =
     let if1 = c.if-i-ge-RULES_MOST in
-    let rule_at_lem = c.rule_at-rule in
+    let rule_at_lem = c.rule_at in
     let if3 = c.if-head-nonterminal-2 in
     λ s h. division_not s _ _ _ _ _ _ _ (sym (h.rules.rules _ (omega (arith, if1.false))) ∙ sym rule_at_lem.ensures ∙ c.in-Division.is)
     if3.true
@@ -44,7 +43,7 @@ division_at-requires c =
 pub returns-else-head-nonterminal : goal.returns-else-head-nonterminal
 returns-else-head-nonterminal c =
     let if1 = c.if-i-ge-RULES_MOST in
-    let rule_at_lem = c.rule_at-rule in
+    let rule_at_lem = c.rule_at in
     let if2 = c.if-head-nonterminal in
     let leaf_at_lem = c.leaf_at in
     λ s h. let a = c.args in
@@ -55,7 +54,7 @@ returns-else-head-nonterminal c =
 pub returns-else-head-nonterminal-2 : goal.returns-else-head-nonterminal-2
 returns-else-head-nonterminal-2 c =
     let if1 = c.if-i-ge-RULES_MOST in
-    let rule_at_lem = c.rule_at-rule in
+    let rule_at_lem = c.rule_at in
     let division_at = c.division_at in
     let if3 = c.if-head-nonterminal-2 in
     λ s h. let a = c.args in

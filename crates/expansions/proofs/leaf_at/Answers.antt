@@ -1,20 +1,14 @@
 -- `leaf_at` meets its contract, by what `place` gives. Assumes nothing.
-use mathlib.Core.Path.{refl, sym, ap, ◌∙◌}
+use mathlib.Core.Path.{refl, ap, ◌∙◌}
 use Prim.Native.Nat.{◌+◌}
 use native.Mathlib.Omega.{arith}
 use Rattle.trees.specs.ValidTrees.{token}
 use Rattle.trees.proofs.Onsets.{onsets_most, early_late}
-use Rattle.expansions.specs.Items.{first_at}
 use Rattle.expansions.proofs.leaf_at.Goals as goal
 
 pub place-placed-requires : goal.place-placed-requires
 place-placed-requires c =
     (c.requires.0, c.requires.1.here)
-
-pub returns-then-late-gt3 : goal.returns-then-late-gt3
-returns-then-late-gt3 c =
-    let place = c.place-placed in
-    λ s h few kind. absurd (let p = place.ensures s h.here in omega (arith, p.late))
 
 pub overflow_add-carried : goal.overflow_add-carried
 overflow_add-carried c =
@@ -29,17 +23,6 @@ overflow_add-carried c =
     let n = onsets_most s o.left.0 o.len.0 in
     let m = early_late s o.left.0 o.len.0 in
     record { fits = omega arith }
-
-pub returns-then-n-token_of : goal.returns-then-n-token_of
-returns-then-n-token_of c =
-    let place = c.place-placed in
-    let token-of = c.token_of in
-    let if2 = c.if-n-token_of in
-    let carried = c.args.carried in
-    λ s h few kind.
-    let left = c.args.over.left.0 in
-    absurd (if2.true (kind ∙ ap (λ x. token (carried + x) (first_at s left)) (sym (place.ensures s h.here).early)
-    ∙ ap (token (carried + place.result.early)) (sym h.here.first) ∙ sym token-of.ensures))
 
 pub returns : goal.returns
 returns c =

@@ -1,6 +1,5 @@
 -- `figures` meets its contract: R is the sum of the weights, and a × R is within the total, which leaves D. Assumes nothing.
 use native.Mathlib.Omega.{arith}
-use Rattle.pricing.specs.Pricing.{priced_of}
 use Rattle.finding.proofs.FigureSteps.{weight_pre, weighted_fits, figures_are}
 use Rattle.finding.proofs.figures.Goals as goal
 
@@ -25,7 +24,6 @@ overflow_sub-result c =
     weighted_fits h _ (weight-sum.ensures s (weight_pre h (pack-rules.ensures s.grammar h.held)))
 
 pub returns : goal.returns
-unfolding priced_of
 returns c =
     let pack-rules = c.pack_rules-rules in
     let weight-sum = c.weight_sum-weight in

@@ -1,13 +1,12 @@
 -- `find_sheet` meets its contract: 9 and 10 by the lengths of the slices, and else what `find_least` gives. Assumes nothing.
 -- ---- where both slices are long enough
-use mathlib.Core.Path.{◌≡◌}
+use mathlib.Core.Path.{◌≡◌, refl}
 use Rattle.sheet.specs.Sheet.{Sheet}
 use Rattle.sheet.specs.Accepted.{SheetHeld}
 use Rattle.sizes.specs.Sizes.{lengths_of}
 use Rattle.sizes.specs.Held.{length_table}
 use Rattle.search.specs.Clauses.{SearchPre}
 use Rattle.finding.proofs.FindSteps.{counts, short_work, short_tree, search_pre}
-use borrow.Author.Rules.{rules}
 use Rattle.finding.proofs.find_sheet.Goals.{Else-tree-tree_bytes}
 use Rattle.finding.proofs.find_sheet.Goals as goal
 
@@ -31,9 +30,9 @@ work_cells_by-requires c = (c.lengths-reached.ensures.0, (counts c.requires.1).1
 
 pub returns-then-work-work_cells_by : goal.returns-then-work-work_cells_by
 returns-then-work-work_cells_by c =
-    λ s h. short_work h c.args.tree.now c.args.work.now _ c.lengths-reached.ensures.1 _
-    c.work_cells_by.ensures c.if-work-work_cells_by.true _
-    c.refused.ensures
+    rw c.at.ensures
+    (λ s h. short_work h c.args.tree.now c.args.work.now _ c.lengths-reached.ensures.1 _
+    c.work_cells_by.ensures c.if-work-work_cells_by.true _ refl)
 
 pub tree_bytes-requires : goal.tree_bytes-requires
 tree_bytes-requires c =
@@ -41,9 +40,10 @@ tree_bytes-requires c =
 
 pub returns-then-tree-tree_bytes : goal.returns-then-tree-tree_bytes
 returns-then-tree-tree_bytes c =
-    λ s h. short_tree h c.args.tree.now c.args.work.now _ c.lengths-reached.ensures.1 _
+    rw c.at-then-tree-tree_bytes.ensures
+    (λ s h. short_tree h c.args.tree.now c.args.work.now _ c.lengths-reached.ensures.1 _
     c.work_cells_by.ensures c.if-work-work_cells_by.false _ c.tree_bytes.ensures
-    c.if-tree-tree_bytes.true _ c.refused-then-tree-tree_bytes.ensures
+    c.if-tree-tree_bytes.true _ refl)
 
 pub find_least-requires : goal.find_least-requires
 find_least-requires c =

@@ -4,10 +4,10 @@ use borrow.Author.Tests.{eq-eqb, ne_eqb}
 use Rattle.grammar.specs.Clauses.{arity_of}
 use Rattle.grammar.proofs.arity_of.Goals as goal
 
-pub returns-then-l-eq68 : goal.returns-then-l-eq68
+pub returns-then-l : goal.returns-then-l
 unfolding arity_of
-returns-then-l-eq68 c b h = rw (eq-eqb _ 0x44 (sym h.kind ∙ c.if-l-eq68.true)) (c.byte_at.ensures b h)
+returns-then-l c b h = rw (eq-eqb _ 0x44 (sym h.kind ∙ c.if-l.true)) (c.byte_at.ensures b h)
 
-pub returns : goal.returns
+pub returns-else-l : goal.returns-else-l
 unfolding arity_of
-returns c b h = rw (ne_eqb _ 0x44 (λ z. c.if-l-eq68.false (h.kind ∙ z))) refl
+returns-else-l c b h = rw (ne_eqb _ 0x44 (λ z. c.if-l.false (h.kind ∙ z))) refl

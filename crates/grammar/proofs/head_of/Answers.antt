@@ -1,8 +1,6 @@
 -- `head_of` meets its contract: the grammar of zeros with the three fields of the line. Assumes nothing.
-use mathlib.Core.Path.{◌∙◌}
 use Rattle.sheet.specs.Reading.{head_of}
 use Rattle.sheet.specs.Held.{grammar_table}
-use borrow.Author.Rules.{rules}
 use Rattle.grammar.proofs.head_of.Goals as goal
 
 pub returns : goal.returns
@@ -12,7 +10,7 @@ returns c b h =
     λ j. record {
       nonterminals = c.byte_at.ensures b h j;
       start = c.byte_at-2.ensures b h j;
-      multiplier = (c.narrow.ensures ∙ c.two_at.ensures.1 b h) j;
+      multiplier = c.two_at.ensures b h j;
       count = (e j).count;
       rules = (e j).rules;
       children = (e j).children;

@@ -15,15 +15,15 @@ pub loop-j-init : goal.loop-j-init
 unfolding bytes_from child_cells
 loop-j-init c = (search rules, λ b h rs q e. e ∙ ap (pad 512 0) (sym (append-nil (flat rs))))
 
-pub byte_at-x-requires : goal.byte_at-x-requires
-byte_at-x-requires c = λ z. omega arith
+pub byte_at-requires : goal.byte_at-requires
+byte_at-requires c = λ z. omega arith
 
 pub loop-j-preserved : goal.loop-j-preserved
 loop-j-preserved c =
     let args = c.args in
     let loop = c.loop-j in (
       search rules,
-      λ b h rs q e. ap (set loop.children (args.n * 8 + loop.j)) (c.byte_at-x.ensures b h)
+      λ b h rs q e. ap (set loop.children (args.n * 8 + loop.j)) (c.byte_at.ensures b h)
           ∙ cell_more b rs args.n loop.j loop.children q (search rules) (search rules) (loop.invariant.1 b h rs q e),
     )
 

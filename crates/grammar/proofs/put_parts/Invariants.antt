@@ -1,6 +1,5 @@
--- `put_parts` meets its contract. The loop's invariant: the places of rule n hold the first j parts. The measure is how many are left.
--- Assumes nothing.
-use Prim.Native.Nat.{ℕ, ◌-◌, ◌≤◌}
+-- `put_parts` meets its contract. The loop's invariant: the places of rule n hold the first j parts. Assumes nothing.
+use Prim.Native.Nat.{ℕ, ◌≤◌}
 use mathlib.Core.Path.{◌≡◌}
 use mathlib.Core.List.{List, ◌++◌}
 use lib.ListN.{length}
@@ -14,6 +13,3 @@ invariant-loop-j l =
     (l.j ≤ l.k)
     × ((b : List ℕ) → LineHeld l.l b → (rs : List (List ℕ)) → length rs ≡ l.n → l.initial.children ≡ child_cells rs
     → l.children ≡ pad 512 0 (flat rs ++ bytes_from l.j 5 b))
-
-abbrev pub decreases-loop-j : goal.decreases-loop-j
-decreases-loop-j l = l.k - l.j

@@ -6,105 +6,107 @@ use native.Mathlib.Nat.{le_trans, le_of_eq}
 use lib.ListN.{drop}
 use Rattle.hextext.specs.Text.{line_bytes}
 use Rattle.hextext.specs.Laws.{line_falls, line_within, line_size_pos}
-use Rattle.hextext.specs.PackedLaws.{line_next}
+use Rattle.hextext.specs.PackedLaws.{line_next, line_if_some, line_if_none}
+use Rattle.sheet.specs.Refusal.{number_some}
 use Rattle.sheet.specs.Rest.{rest_held}
 use Rattle.grammar.specs.Clauses.{arity_of}
-use Rattle.grammar.proofs.RuleLoop.{rules_none, rules_end, rules_bad, rules_early, rules_done, rules_stop}
-use Rattle.grammar.proofs.RuleLoop.{rules_more, rules_refused, rule_fits}
-use Rattle.grammar.proofs.read_rules.Goals.{Else-number-ne0}
+use Rattle.grammar.proofs.RuleLoop.{rules_none, rules_end, rules_bad, rules_early, rules_done, rules_stop, rules_more, rule_fits}
+use Rattle.grammar.proofs.read_rules.Goals.{In_default-check_rule}
 use Rattle.grammar.proofs.read_rules.Goals as goal
 
-fits : (c : Else-number-ne0)
-    → (c.loop-at.table.count < 64)
-    × (arity_of ((line_bytes (drop c.loop-at.at c.args.text.now))) ≤ 8) × (c.line_at-l.result.count ≤ 13)
+-- a line that is taken as a rule: there is room for it, and it is short
+fits : (c : In_default-check_rule)
+    → (c.loop-at.grammar.count < 64)
+    × (arity_of ((line_bytes (drop c.loop-at.at c.args.text.now))) ≤ 8) × (c.in-Some.l.count ≤ 13)
 fits c =
-    let line = c.line_at-l.ensures in
-    let filled = c.if-l-eq0.false in
-    rule_fits _ _ (search rules) _ line filled _ _ _ (c.rule_refusal-number.ensures _ (rest_held _ _ (search rules) _ line filled))
-    c.if-number-ne0.false
+    let (is, filled) = line_if_some c.in-Some.ensures in
+    rule_fits _ _ c.loop-at-test.true _ is filled _ _ _ (c.in_default-check_rule.ensures _ (rest_held _ _ c.loop-at-test.true _ is filled)) refl
 
 pub loop-at-init : goal.loop-at-init
 loop-at-init c =
     let pre = c.requires in
-    (pre.1, pre.2, pre.3, λ h good e. rules_none _ _ _ h _ good e)
+    (pre.0, pre.1, pre.2, λ h good e. rules_none _ _ _ h _ good e)
 
 -- a bad line
-pub returns-then-l-eq0 : goal.returns-then-l-eq0
-returns-then-l-eq0 c h good e =
-    let so = c.loop-at.invariant.3 h good e in
-    rw c.ended.ensures
-    (rules_refused _ (λ z. omega arith) c.loop-at.invariant.1
-    (rules_bad so (search rules) _ c.line_at-l.ensures c.loop-at.invariant.2 c.if-l-eq0.true 2))
+pub returns-in_default : goal.returns-in_default
+returns-in_default c h good e =
+    let loop = c.loop-at.invariant in
+    let none = line_if_none _ c.in_default.ensures in
+    record { is = rules_bad (loop.3 h good e) c.loop-at-test.true _ refl loop.2 none 2; place = loop.1; numbered = loop.2 }
 
 -- the `45` line: it is refused where no rule stands before it, and else ends the rules
-pub returns-then-l-eq69 : goal.returns-then-l-eq69
-returns-then-l-eq69 c h good e =
-    let so = c.loop-at.invariant.3 h good e in
-    let line = c.line_at-l.ensures in
-    let filled = c.if-l-eq0.false in
-    let kind = c.if-l-eq69.true in
-    let number = c.end_refusal.ensures in
-    rw c.ended-then-l-eq69.ensures
-    (record {
-      stop = λ f. rules_early so (search rules) _ line filled kind _ number f;
-      place = λ _. c.loop-at.invariant.1;
-      done = λ z. rules_done so (search rules) _ line filled kind _ number z c.loop-at.invariant.1 c.loop-at.invariant.2;
-    })
+pub returns-in-Err : goal.returns-in-Err
+returns-in-Err c h good e =
+    let loop = c.loop-at.invariant in
+    let (is, filled) = line_if_some c.in-Some.ensures in
+    record {
+      is = rules_early (loop.3 h good e) c.loop-at-test.true _ is filled c.if-l.true _ c.in-Err.ensures (number_some _);
+      place = loop.1;
+      numbered = loop.2;
+    }
+
+pub returns-then-l : goal.returns-then-l
+returns-then-l c h good e =
+    let loop = c.loop-at.invariant in
+    let (is, filled) = line_if_some c.in-Some.ensures in
+    rules_done (loop.3 h good e) c.loop-at-test.true _ is filled c.if-l.true _ c.in_default-check_end.ensures refl loop.1 loop.2
 
 -- a line that is refused
-pub returns-then-number-ne0 : goal.returns-then-number-ne0
-returns-then-number-ne0 c h good e =
-    let so = c.loop-at.invariant.3 h good e in
-    let line = c.line_at-l.ensures in
-    let filled = c.if-l-eq0.false in
-    let number = c.rule_refusal-number.ensures _ (rest_held _ _ (search rules) _ line filled) in
-    rw c.ended-then-number-ne0.ensures
-    (rules_refused _ c.if-number-ne0.true c.loop-at.invariant.1
-    (rules_stop so (search rules) _ line filled c.if-l-eq69.false _ number c.if-number-ne0.true))
+pub returns-in-Err-check_rule : goal.returns-in-Err-check_rule
+returns-in-Err-check_rule c h good e =
+    let loop = c.loop-at.invariant in
+    let (is, filled) = line_if_some c.in-Some.ensures in
+    let number = c.in-Err-check_rule.ensures _ (rest_held _ _ c.loop-at-test.true _ is filled) in
+    record {
+      is = rules_stop (loop.3 h good e) c.loop-at-test.true _ is filled c.if-l.false _ number (number_some _);
+      place = loop.1;
+      numbered = loop.2;
+    }
 
 -- a line that is taken as a rule: its number counts on, and there is room for it
 pub overflow_add-line : goal.overflow_add-line
-overflow_add-line c =
-    omega (arith, c.loop-at.invariant.1)
+overflow_add-line c = omega (arith, c.loop-at.invariant.1)
 
-pub offset_bounds-table-n : goal.offset_bounds-table-n
-offset_bounds-table-n c = let m = (fits (goal.at.offset_bounds-table-n c).Else-number-ne0).0 in search rules
+pub offset_bounds-grammar-n : goal.offset_bounds-grammar-n
+offset_bounds-grammar-n c = let m = (fits (goal.at.offset_bounds-grammar-n c).In_default-check_rule).0 in search rules
 
-pub bounds-table-n : goal.bounds-table-n
-bounds-table-n c = (fits (goal.at.bounds-table-n c).Else-number-ne0).0
+pub bounds-grammar-n : goal.bounds-grammar-n
+bounds-grammar-n c = (fits (goal.at.bounds-grammar-n c).In_default-check_rule).0
 
 pub put_parts-requires : goal.put_parts-requires
 put_parts-requires c =
-    let m = fits (goal.at.put_parts-requires c).Else-number-ne0 in
-    let arity = c.arity_of.ensures _ (rest_held _ _ (search rules) _ c.line_at-l.ensures c.if-l-eq0.false) in
+    let m = fits (goal.at.put_parts-requires c).In_default-check_rule in
+    let (is, filled) = line_if_some c.in-Some.ensures in
+    let arity = c.arity_of.ensures _ (rest_held _ _ c.loop-at-test.true _ is filled) in
     (m.0, le_trans (le_of_eq arity) m.1, m.2)
 
-pub overflow_add-table : goal.overflow_add-table
-overflow_add-table c = let m = (fits (goal.at.overflow_add-table c).Else-number-ne0).0 in search rules
+pub overflow_add-grammar : goal.overflow_add-grammar
+overflow_add-grammar c = let m = (fits (goal.at.overflow_add-grammar c).In_default-check_rule).0 in search rules
 
 pub loop-at-smaller : goal.loop-at-smaller
 loop-at-smaller c =
-    line_falls _ _ (search rules) _ (line_next _ _ _ c.line_at-l.ensures c.if-l-eq0.false)
+    let (is, filled) = line_if_some c.in-Some.ensures in
+    line_falls _ _ c.loop-at-test.true _ (line_next _ _ _ is filled)
 
 pub loop-at-preserved : goal.loop-at-preserved
 loop-at-preserved c =
     let text = c.args.text.now in
-    let line = c.line_at-l.ensures in
-    let filled = c.if-l-eq0.false in
-    let next = line_next text c.loop-at.at _ line filled in
-    let held = rest_held text c.loop-at.at (search rules) _ line filled in
-    let further = line_size_pos text c.loop-at.at (search rules) in (
-      le_trans (le_of_eq next) (line_within text c.loop-at.at (search rules)),
+    let inside = c.loop-at-test.true in
+    let (is, filled) = line_if_some c.in-Some.ensures in
+    let next = line_next text c.loop-at.at _ is filled in
+    let held = rest_held text c.loop-at.at inside _ is filled in
+    let further = line_size_pos text c.loop-at.at inside in (
+      le_trans (le_of_eq next) (line_within text c.loop-at.at (omega arith)),
       omega (arith, next, c.loop-at.invariant.1),
       search rules,
       λ h good e.
-          rules_more (c.loop-at.invariant.3 h good e) (search rules) _ line filled c.if-l-eq69.false _
-          (c.rule_refusal-number.ensures _ held) c.if-number-ne0.false _ (c.rule_of-cell.ensures _ held) _ _
+          rules_more (c.loop-at.invariant.3 h good e) inside _ is filled c.if-l.false _
+          (c.in_default-check_rule.ensures _ held) refl _ (c.rule_of.ensures _ held) _ _
           (c.arity_of.ensures _ held) (c.put_parts.ensures _ held) _ refl,
     )
 
 -- no line is left
 pub returns : goal.returns
 returns c h good e =
-    rw c.ended-2.ensures
-    (rules_refused _ (λ z. omega arith) c.loop-at.invariant.1 (rules_end (c.loop-at.invariant.3 h good e) (search rules)))
+    let loop = c.loop-at.invariant in
+    record { is = rules_end (loop.3 h good e) c.loop-at-test.false; place = loop.1; numbered = loop.2 }

@@ -13,7 +13,7 @@ use Rattle.grammar.proofs.read_rules.Given as goal
 abbrev pub invariant-loop-at : goal.invariant-loop-at
 invariant-loop-at l =
     (l.at ≤ length l.text) × (l.line ≤ l.at + 1) × (0 < l.line)
-    × ((h : Grammar) → GoodRules h → l.initial.table ≡ grammar_table h → RulesSoFar l.text l.at-2 l.line-2 h l.table l.at l.line)
+    × ((h : Grammar) → GoodRules h → l.initial.grammar ≡ grammar_table h → RulesSoFar l.text l.at-2 l.line-2 h l.grammar l.at l.line)
 
 abbrev pub decreases-loop-at : goal.decreases-loop-at
 decreases-loop-at l = length l.text - l.at

@@ -1,5 +1,5 @@
 use native.Mathlib.Omega.{arith}
-use Rattle.hextext.proofs.LineSteps.{read_none, read_length, read_written, read_dropped, ended_0_a, ended_last, ended_past}
+use Rattle.hextext.proofs.LineSteps.{read_none, read_written, read_dropped, ended_0_a, ended_last, ended_past}
 use Rattle.hextext.proofs.next_line.Goals as goal
 
 pub loop-i-init : goal.loop-i-init

@@ -1,116 +1,113 @@
 -- `read_lines` meets its contract: the first line, the rules and the playing, each from where the one before ended. Assumes nothing.
--- ---- where the rules have been read
--- ---- where the playing has been read
 use native.Mathlib.Omega.{arith}
 use mathlib.Core.List.{List}
 use Prim.Native.Nat.{ℕ}
-use mathlib.Core.Path.{◌≡◌, sym, ap, ◌∙◌}
+use mathlib.Core.Path.{◌≡◌, refl, sym, ap, subst, ◌∙◌}
 use native.Mathlib.Nat.{le_trans, le_of_eq}
 use lib.ListN.{drop}
+use Rattle.std.proofs.Common.{Result, Ok, Err}
+use Rattle.std.proofs.lemmas.Result.{err_from_is_err_and}
 use Rattle.hextext.specs.Text.{line_bytes}
 use Rattle.hextext.specs.Laws.{line_within, line_size_pos}
-use Rattle.hextext.specs.PackedLaws.{line_next}
-use Rattle.sheet.specs.Reading.{head_of, nothing}
-use Rattle.sheet.specs.Rest.{read_rest}
-use Rattle.sheet.specs.Held.{reading_of}
+use Rattle.hextext.specs.PackedLaws.{line_next, line_if_some, line_if_none}
 use Rattle.hextext.specs.declared.line.Line.{Line}
+use Rattle.sheet.specs.declared.refusal.Stop.{Stop}
+use Rattle.sheet.specs.Outcome.{accepted}
+use Rattle.sheet.specs.Reading.{head_of, nothing}
+use Rattle.sheet.specs.Refusal.{number_some}
+use Rattle.sheet.specs.Rest.{read_rest, Stopped}
+use Rattle.sheet.specs.Held.{tables, reading_of}
 use Rattle.grammar.specs.declared.Rules.{Rules}
-use Rattle.grammar.specs.Clauses.{RulesRead, RulesDone}
+use Rattle.grammar.specs.Clauses.{RulesDone}
 use Rattle.playing.specs.declared.Take.{Take}
 use Rattle.playing.specs.Clauses.{PlayingRead, TakeRead}
-use Rattle.reading.proofs.FirstLine.{Taken, first_refused, first_taken}
-use borrow.Author.Rules.{rules}
-use Rattle.reading.proofs.read_lines.Goals.{After-read_rules-rules}
+use Rattle.reading.proofs.FirstLine.{Taken, first_bad, first_refused, first_taken}
+use Rattle.reading.proofs.read_lines.Goals.{In_default-check_first, In_ok-rules}
 use Rattle.reading.proofs.read_lines.Goals as goal
 
--- where the rules have been read: the first line is not refused
-first : (c : After-read_rules-rules) → Taken c.args.text.now c.line_at-head.result
+-- where the first line is not refused
+first : (c : In_default-check_first) → Taken c.args.text.now c.in-Some.head
 first c =
-    let number = c.first_refusal-head_number in
-    first_taken c.args.text.now c.requires.1 _ c.line_at-head.ensures _ number.ensures.0 number.ensures.1 c.if-head_number-ne0.false
+    let (is, filled) = line_if_some c.in-Some.ensures in
+    first_taken c.args.text.now c.requires _ is filled _ c.in_default-check_first.ensures refl
 
--- the rules are read from where it ends, and so is the rest of the text
-rules_read : (c : After-read_rules-rules)
-    → RulesRead c.args.text.now c.line_at-head.result.next 2 (head_of (line_bytes (drop 0 c.args.text.now))) c.read_rules-rules.result
+-- where the rules have been read behind it
+rules_read : (c : In_ok-rules)
+    → RulesDone c.args.text.now c.in-Some.head.next 2 (head_of (line_bytes (drop 0 c.args.text.now))) c.in_ok-rules.rules
 rules_read c =
-    let number = c.first_refusal-head_number in
-    let first = first_taken c.args.text.now c.requires.1 _ c.line_at-head.ensures _ number.ensures.0 number.ensures.1 c.if-head_number-ne0.false in
-    c.read_rules-rules.ensures _ first.good (c.head_of.ensures _ first.held)
+    let (is, filled) = line_if_some c.in-Some.ensures in
+    let one = first_taken c.args.text.now c.requires _ is filled _ c.in_default-check_first.ensures refl in
+    c.in_ok-rules.ensures _ one.good (c.head_of.ensures _ one.held)
 
 -- of a text t whose first line l is not refused, and whose rules are read behind it
-module _ {t : List ℕ} {l : Line} {r : Rules} (first : Taken t l) (d : RulesDone t l.next 2 (head_of (line_bytes (drop 0 t))) r) where
+module _ {t : List ℕ} {l : Line} {r : Rules} (one : Taken t l) (d : RulesDone t l.next 2 (head_of (line_bytes (drop 0 t))) r) where
   -- a playing that is read behind them is what the text comes to
-  take_read : (p : Take) → PlayingRead t r.at r.line r.end d.grammar p → TakeRead t (read_rest nothing 1 t) d.grammar p
-  take_read p h = rw (first.on ∙ d.rest) (h d.good d.some_rule d.kind)
+  take_read : (p : Result Take Stop) → PlayingRead t r.at r.line r.end d.grammar p → TakeRead t (read_rest nothing 1 t) d.grammar p
+  take_read p h = rw (one.on ∙ d.rest) (h d.good d.some_rule d.kind)
 
   -- the reading of a playing that is not refused
-  reading_is : (p : Take) → TakeRead t (read_rest nothing 1 t) d.grammar p → p.number ≡ 0
-      → record { number = 0; line = 0; timing = p.timing; grammar = r.grammar; playing = p.playing } ≡ reading_of (read_rest nothing 1 t)
-  unfolding reading_of
-  reading_is p h z =
-      let done = h.done z in
-      (λ j. record { number = 0; line = 0; timing = done.timing_table_lem j; grammar = d.table j; playing = done.table j })
+  reading_is : (p : Take) → PlayingRead t r.at r.line r.end d.grammar (Ok p)
+      → accepted (record { timing = p.timing; grammar = r.grammar; playing = p.playing }) ≡ reading_of (read_rest nothing 1 t)
+  unfolding tables
+  reading_is p h =
+      let done = take_read (Ok p) h in
+      (λ j. accepted (record { timing = done.timing_table_lem j; grammar = d.table j; playing = done.table j }))
       ∙ ap reading_of (sym done.sheet)
 
-pub returns-then-head_number-ne0 : goal.returns-then-head_number-ne0
-returns-then-head_number-ne0 c =
+pub returns-in_default : goal.returns-in_default
+returns-in_default c =
+    let none = line_if_none _ c.in_default.ensures in
+    record { is = first_bad c.args.text.now c.requires _ refl none 2; place = omega arith; numbered = omega arith }
+
+pub returns-in-Err : goal.returns-in-Err
+returns-in-Err c =
+    let (is, filled) = line_if_some c.in-Some.ensures in
+    record {
+      is = first_refused c.args.text.now c.requires _ is filled _ c.in-Err.ensures (number_some _);
+      place = omega arith;
+      numbered = omega arith;
+    }
+
+pub read_rules-requires : goal.read_rules-requires
+read_rules-requires c =
     let text = c.args.text.now in
-    let line = c.line_at-head.ensures in
-    let number = c.first_refusal-head_number.ensures in
-    c.stopped_at.ensures
-    ∙ ap reading_of (sym (first_refused text c.requires.1 _ line _ number.0 number.1 c.if-head_number-ne0.true))
+    let (is, filled) = line_if_some c.in-Some.ensures in
+    let next = line_next text 0 _ is filled in
+    let further = line_size_pos text 0 c.requires in
+    (le_trans (le_of_eq next) (line_within text 0 (omega arith)), omega (arith, next), omega arith)
 
-pub read_rules-rules-requires : goal.read_rules-rules-requires
-read_rules-rules-requires c =
-    let text = c.args.text.now in
-    let line = c.line_at-head.ensures in
-    let number = c.first_refusal-head_number.ensures in
-    let taken = first_taken text c.requires.1 _ line _ number.0 number.1 c.if-head_number-ne0.false in
-    let next = line_next text 0 _ line taken.filled in
-    let further = line_size_pos text 0 c.requires.1 in
-    (c.requires.0, le_trans (le_of_eq next) (line_within text 0 (omega arith)), omega (arith, next), omega arith)
+pub returns-in_err-rules : goal.returns-in_err-rules
+returns-in_err-rules c =
+    let q = err_from_is_err_and c.from_residual.result c.from_residual.ensures.1 in
+    let one = first (goal.at.returns-in_err-rules c).In_default-check_first in
+    rw (q.1, q.2)
+    (subst (λ o. Stopped c.args.text.now o c.in_err-rules.field-0.0) (sym one.on) (c.in_err-rules.ensures _ one.good (c.head_of.ensures _ one.held)))
 
-pub stopped_at-requires-then-rules_number-ne0 : goal.stopped_at-requires-then-rules_number-ne0
-stopped_at-requires-then-rules_number-ne0 c =
-    (c.requires.0, (rules_read (goal.at.stopped_at-requires-then-rules_number-ne0 c).After-read_rules-rules).place c.if-rules_number-ne0.true)
+pub even_playing-requires : goal.even_playing-requires
+even_playing-requires c =
+    let d = rules_read (goal.at.even_playing-requires c).In_ok-rules in
+    (d.inside, d.end, d.filled)
 
-pub returns-then-rules_number-ne0 : goal.returns-then-rules_number-ne0
-returns-then-rules_number-ne0 c =
-    c.stopped_at-then-rules_number-ne0.ensures ∙ ap reading_of (sym ((first (goal.at.returns-then-rules_number-ne0 c).After-read_rules-rules).on ∙ (rules_read (goal.at.returns-then-rules_number-ne0 c).After-read_rules-rules).stop c.if-rules_number-ne0.true))
+pub read_playing-requires : goal.read_playing-requires
+read_playing-requires c =
+    let d = rules_read (goal.at.read_playing-requires c).In_ok-rules in
+    (d.inside, d.line, d.numbered, d.end, d.filled)
 
-pub even_playing-even-requires : goal.even_playing-even-requires
-even_playing-even-requires c =
-    let d = (rules_read (goal.at.even_playing-even-requires c).After-read_rules-rules).done c.if-rules_number-ne0.false in
-    (c.requires.0, d.inside, d.end, d.filled)
+pub returns-in_err-take : goal.returns-in_err-take
+returns-in_err-take c =
+    let q = err_from_is_err_and c.from_residual-in_err-take.result c.from_residual-in_err-take.ensures.1 in
+    let one = first (goal.at.returns-in_err-take c).In_default-check_first in
+    let d = rules_read (goal.at.returns-in_err-take c).In_ok-rules in
+    rw (q.1, q.2) (take_read one d (Err c.in_err-take.field-0.0) (c.in_err-take.ensures d.grammar))
 
--- bars of one duration, and each line behind the `45` line adds an onset
-pub returns-then-even-eq0 : goal.returns-then-even-eq0
-returns-then-even-eq0 c =
-    let z = c.if-even-eq0.true in
-    let one = first (goal.at.returns-then-even-eq0 c).After-read_rules-rules in
-    let d = (rules_read (goal.at.returns-then-even-eq0 c).After-read_rules-rules).done c.if-rules_number-ne0.false in
-    reading_is one d c.even_playing-even.result (take_read one d _ (c.even_playing-even.ensures z _ d.line d.numbered d.grammar)) z
-
-pub read_playing-take-requires : goal.read_playing-take-requires
-read_playing-take-requires c =
-    let d = (rules_read (goal.at.read_playing-take-requires c).After-read_rules-rules).done c.if-rules_number-ne0.false in
-    (c.requires.0, d.inside, d.line, d.numbered, d.end, d.filled)
-
-pub stopped_at-requires-then-take_number-ne0 : goal.stopped_at-requires-then-take_number-ne0
-stopped_at-requires-then-take_number-ne0 c =
-    let one = first (goal.at.stopped_at-requires-then-take_number-ne0 c).After-read_rules-rules in
-    let d = (rules_read (goal.at.stopped_at-requires-then-take_number-ne0 c).After-read_rules-rules).done c.if-rules_number-ne0.false in
-    (c.requires.0, (take_read one d _ (c.read_playing-take.ensures d.grammar)).place c.if-take_number-ne0.true)
-
-pub returns-then-take_number-ne0 : goal.returns-then-take_number-ne0
-returns-then-take_number-ne0 c =
-    let one = first (goal.at.returns-then-take_number-ne0 c).After-read_rules-rules in
-    let d = (rules_read (goal.at.returns-then-take_number-ne0 c).After-read_rules-rules).done c.if-rules_number-ne0.false in
-    c.stopped_at-then-take_number-ne0.ensures
-    ∙ ap reading_of (sym ((take_read one d _ (c.read_playing-take.ensures d.grammar)).stop c.if-take_number-ne0.true))
+pub returns-in-Some-even_playing : goal.returns-in-Some-even_playing
+returns-in-Some-even_playing c =
+    let one = first (goal.at.returns-in-Some-even_playing c).In_default-check_first in
+    let d = rules_read (goal.at.returns-in-Some-even_playing c).In_ok-rules in
+    reading_is one d c.in-Some-even_playing.take (c.in-Some-even_playing.ensures _ d.line d.numbered d.grammar)
 
 pub returns : goal.returns
 returns c =
-    let one = first (goal.at.returns c).After-read_rules-rules in
-    let d = (rules_read (goal.at.returns c).After-read_rules-rules).done c.if-rules_number-ne0.false in
-    reading_is one d c.read_playing-take.result (take_read one d _ (c.read_playing-take.ensures d.grammar)) c.if-take_number-ne0.false
+    let one = first (goal.at.returns c).In_default-check_first in
+    let d = rules_read (goal.at.returns c).In_ok-rules in
+    reading_is one d c.in_ok-take.take (c.in_ok-take.ensures d.grammar)

@@ -9,12 +9,12 @@ returns-then-i-ge-RULES_MOST c = (search rules, λ s h. one_past s _ _ h c.if-i-
 
 pub returns-in-Leaf : goal.returns-in-Leaf
 returns-in-Leaf c =
-    let rule_at_lem = c.rule_at-rule in
+    let rule_at_lem = c.rule_at in
     let if1 = c.if-i-ge-RULES_MOST in
     (search rules, λ s h. one_leaf s _ _ _ _ (sym (cell_at s _ h _ if1.false) ∙ sym rule_at_lem.ensures ∙ c.in-Leaf.is))
 
 pub returns-in-Division : goal.returns-in-Division
 returns-in-Division c =
-    let rule_at_lem = c.rule_at-rule in
+    let rule_at_lem = c.rule_at in
     let if1 = c.if-i-ge-RULES_MOST in
     (search rules, λ s h. one_division s _ _ _ _ (sym (cell_at s _ h _ if1.false) ∙ sym rule_at_lem.ensures ∙ c.in-Division.is))

@@ -6,7 +6,6 @@
 -- ---- where its rows are stored: a bar more
 -- ---- where nothing is carried over its end: the bars up to there may be committed
 -- ---- where all bars are passed
-use Prim.Native.Nat.{◌-◌, ◌≤◌}
 use mathlib.Core.Path.{◌≡◌}
 use lib.ListN.{length}
 use Rattle.sheet.specs.Sheet.{Sheet}
@@ -16,9 +15,7 @@ use Rattle.search.proofs.forward.Given as goal
 
 abbrev pub invariant-loop-b : goal.invariant-loop-b
 invariant-loop-b l =
-    (l.b ≤ l.count) × (length l.roots ≡ length l.initial.roots) × (length l.vectors ≡ length l.initial.vectors) × (length l.tree ≡ length l.initial.tree)
-    × ((s : Sheet) → ForwardPre s l.plan l.units l.order l.initial.rows l.initial.tree l.initial.roots l.initial.vectors l.start l.count → Going s l.rows l.tree l.roots l.b l.v l.done l.next)
-
-abbrev pub decreases-loop-b : goal.decreases-loop-b
-decreases-loop-b l =
-    l.count - l.b
+    (length l.roots ≡ length l.initial.roots) × (length l.vectors ≡ length l.initial.vectors) × (length l.tree ≡ length l.initial.tree)
+    × ((s : Sheet)
+    → ForwardPre s l.plan l.units l.order l.initial.rows l.initial.tree l.initial.roots l.initial.vectors l.start l.count
+    → Going s l.rows l.tree l.roots l.b l.v l.done l.next)

@@ -7,15 +7,15 @@
 use Prim.Native.Nat.{◌+◌, ◌*◌, ◌≤◌}
 use mathlib.Core.Path.{◌≡◌, refl, sym}
 use native.Mathlib.Omega.{arith}
-use borrow.Author.Rules.{rules}
-use lib.ListN.{length, take}
+use lib.ListN.{length, take, drop}
+use mathlib.Core.List.{◌++◌}
 use lib.Seq.{length-take-le}
 use Rattle.sheet.specs.Sheet.{Sheet}
 use Rattle.sizes.specs.Sizes.{lengths_of}
 use Rattle.sizes.specs.Held.{length_table}
 use Rattle.search.specs.Clauses.{row_cells, RowCellsPre, ParsePre, SearchPre}
 use Rattle.search.proofs.SearchSteps.{onsets_few, cells_few, cells_fit, cells_all, bars_are, parse_entry, lent_length, searched}
-use Rattle.search.proofs.least_tree.Goals.{After-row_cells-cells, Start}
+use Rattle.search.proofs.least_tree.Goals.{After-parse-found, After-row_cells-cells, Start}
 use Rattle.search.proofs.least_tree.Goals as goal
 
 -- that of the contract
@@ -35,11 +35,13 @@ counted c s (h, lengths) = record {
 
 -- they are the sheet's, and the work slice has them
 cells_are : (c : After-row_cells-cells) (s : Sheet) → (let a = c.args in
-    SearchPre s a.grammar a.playing a.tree.now a.work.now × (a.reached ≡ length_table (lengths_of s.grammar.rules))) → c.row_cells-cells.result ≡ row_cells s
+    SearchPre s a.grammar a.playing a.tree.now a.work.now × (a.reached ≡ length_table (lengths_of s.grammar.rules)))
+    → c.row_cells-cells.result ≡ row_cells s
 cells_are c s h = c.row_cells-cells.ensures s (counted c s h)
 
 fit : (c : After-row_cells-cells) (s : Sheet) → (let a = c.args in
-    SearchPre s a.grammar a.playing a.tree.now a.work.now × (a.reached ≡ length_table (lengths_of s.grammar.rules))) → c.row_cells-cells.result ≤ length (c.args.work.now)
+    SearchPre s a.grammar a.playing a.tree.now a.work.now × (a.reached ≡ length_table (lengths_of s.grammar.rules)))
+    → c.row_cells-cells.result ≤ length (c.args.work.now)
 fit c s h =
     cells_fit h.0 (cells_are c s h)
 
@@ -83,7 +85,8 @@ slice_bounds-parse-end c =
 
 pub slice_bounds-parse-end-2 : goal.slice_bounds-parse-end-2
 slice_bounds-parse-end-2 c =
-    sym (length-take-le (c.row_cells-cells.result) (c.args.work.now) (fit (goal.at.slice_bounds-parse-end-2 c).After-row_cells-cells _ (asked (goal.at.slice_bounds-parse-end-2 c).Start)))
+    let at = goal.at.slice_bounds-parse-end-2 c in
+    sym (length-take-le (c.row_cells-cells.result) (c.args.work.now) (fit at.After-row_cells-cells _ (asked at.Start)))
 
 pub parse-found-requires : goal.parse-found-requires
 parse-found-requires c =
@@ -92,24 +95,42 @@ parse-found-requires c =
 pub overflow_add-cells : goal.overflow_add-cells
 overflow_add-cells c =
     let h = c.requires.1 in
+    let at = goal.at.overflow_add-cells c in
     record {
-      fits = omega (arith, cells_are (goal.at.overflow_add-cells c).After-row_cells-cells _ (asked (goal.at.overflow_add-cells c).Start), cells_few h, bars_are h, h.held.good.onsets.sixty_four);
+      fits = omega (
+        arith,
+        cells_are at.After-row_cells-cells _ (asked at.Start),
+        cells_few h,
+        bars_are h,
+        h.held.good.onsets.sixty_four,
+      );
     }
 
 -- the work slice comes back as long as it was
-pub clear-requires : goal.clear-requires
-clear-requires c =
+enough : (c : After-parse-found) → let cells = c.row_cells-cells.result in
+    cells + 16 * c.args.playing.bars ≤ length (c.parse-found.new.rows ++ drop cells c.args.work.now)
+enough c =
     let h = c.requires.1 in
-    let enough = fit (goal.at.clear-requires c).After-row_cells-cells _ (asked (goal.at.clear-requires c).Start) in
-    let same = lent_length h c.parse-found.new.rows (c.row_cells-cells.result) c.parse-found.auto.rows enough in
-    omega (arith, same, cells_all h (cells_are (goal.at.clear-requires c).After-row_cells-cells _ (asked (goal.at.clear-requires c).Start)), h.work_size)
+    let cells = c.row_cells-cells.result in
+    let prepared = c.prepare.ensures _ h.held.good.rules h.held.grammar c.requires.2 in
+    let most = c.most_in_bar.ensures.1 _ h.held.good.onsets h.held.playing in
+    let are = c.row_cells-cells.ensures c.requires.0 (record { prepared = prepared; onsets = h.held.good.onsets; most_is = most }) in
+    let same = lent_length h c.parse-found.new.rows cells c.parse-found.auto.rows (cells_fit h are) in
+    omega (arith, same, cells_all h are, h.work_size)
+
+pub slice_bounds-fill-end : goal.slice_bounds-fill-end
+slice_bounds-fill-end c = enough (goal.at.slice_bounds-fill-end c).After-parse-found
+
+pub slice_bounds-fill-end-2 : goal.slice_bounds-fill-end-2
+slice_bounds-fill-end-2 c = sym (length-take-le _ _ (enough (goal.at.slice_bounds-fill-end-2 c).After-parse-found))
 
 pub returns : goal.returns
 returns c =
     let cells = c.row_cells-cells.result in
     let rows = c.parse-found.new.rows in
     λ s h lengths.
-    searched h _ rows _ cells (cells + 16 * c.args.playing.bars) _
-    (c.parse-found.ensures s (entry (goal.at.returns c).After-row_cells-cells s (h, lengths))) (fit (goal.at.returns c).After-row_cells-cells s (h, lengths)) c.parse-found.auto.rows
-    (omega arith) (cells_all h (cells_are (goal.at.returns c).After-row_cells-cells s (h, lengths)))
-    c.clear.ensures
+    let at = (goal.at.returns c).After-row_cells-cells in
+    searched h _ rows _ cells (cells + 16 * c.args.playing.bars) _ _
+    (c.parse-found.ensures s (entry at s (h, lengths))) (fit at s (h, lengths)) c.parse-found.auto.rows
+    (omega arith) (cells_all h (cells_are at s (h, lengths)))
+    (c.fill.ensures.after (λ y e. cc)) (length-take-le _ _ (enough (goal.at.returns c).After-parse-found))

@@ -1,5 +1,4 @@
 -- `work_cells` meets its contract: the count of lengths is that of the sheet. Assumes nothing.
-use borrow.Author.Rules.{rules}
 use Rattle.sizes.specs.SizesLaws.{table_count}
 use Rattle.sizes.proofs.work_cells.Goals as goal
 

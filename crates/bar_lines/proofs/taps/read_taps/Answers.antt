@@ -4,91 +4,94 @@ use Prim.Native.Nat.{◌≤◌, ◌<◌}
 use mathlib.Core.Path.{refl, ap, ◌∙◌}
 use lib.ListN.{length}
 use Rattle.slices.specs.Pad.{pad_nil, length-pad}
+use Rattle.hextext.specs.PackedLaws.{line_if_some, line_if_none}
+use Rattle.sheet.specs.Refusal.{number_some}
+use Rattle.sheet.specs.Held.{micros}
 use Rattle.bar_lines.proofs.TapLoop.{taps_none, taps_missing, taps_bad, taps_stop, taps_more, taps_onsets, taps_good}
-use Rattle.bar_lines.proofs.TapLoop.{bars_refused}
-use Rattle.bar_lines.proofs.taps.read_taps.Goals.{After-four_at-t, At-loop-n, Else-text-at}
+use Rattle.bar_lines.proofs.taps.read_taps.Goals.{In-loop-n, Else-text-at}
 use Rattle.bar_lines.proofs.taps.read_taps.Goals as goal
 
-few : (c : At-loop-n) → c.args.bars ≤ 64
-few c = c.requires.4
-
--- where a line is read a tap is missing, and a line is left
-missing : (c : Else-text-at) → c.loop-n.n ≤ c.args.bars
+-- in the loop a tap is missing, and there is room for it
+missing : (c : In-loop-n) → c.loop-n.n ≤ c.args.bars
 missing c = omega (arith, c.loop-n-test.true)
+
+room : (c : In-loop-n) → c.loop-n.n < 65
+room c = let few = c.requires.3 in omega (arith, c.loop-n-test.true, few)
 
 inside : (c : Else-text-at) → c.loop-n.at < length c.args.text.now
 inside c = omega (arith, c.if-text-at.false)
 
--- there is room for a tap
-room : (c : After-four_at-t) → c.loop-n.n < 65
-room c =
-    let missing-here : c.loop-n.n ≤ c.args.bars =
-    omega (arith, c.loop-n-test.true) in
-    let few-here : c.args.bars ≤ 64 =
-    c.requires.4 in
-    let m = missing-here in
-    let n = few-here in
-    omega (arith, m, n)
-
 pub loop-n-init : goal.loop-n-init
 loop-n-init c =
     let pre = c.requires in
-    taps_none _ _ _ _ _ _ pre.1 pre.2 pre.3 (pad_nil 65 0)
+    taps_none _ _ _ _ _ _ pre.0 pre.1 pre.2 (pad_nil 65 (micros 0))
 
 pub returns-then-text-at : goal.returns-then-text-at
 returns-then-text-at c =
     let so = c.loop-n.invariant in
-    bars_refused _ c.refused_bars.ensures (λ z. omega arith) so.line so.numbered so.within
-    (taps_missing so (few (goal.at.returns-then-text-at c).At-loop-n) (omega (arith, c.loop-n-test.true)) (omega (arith, c.if-text-at.true)))
+    let missing-here = missing (goal.at.returns-then-text-at c).In-loop-n in (
+      so.within,
+      λ g. record { is = taps_missing so c.requires.3 missing-here c.if-text-at.true g; place = so.line; numbered = so.numbered },
+    )
 
-pub returns-then-l-eq0 : goal.returns-then-l-eq0
-returns-then-l-eq0 c =
+pub returns-in_default : goal.returns-in_default
+returns-in_default c =
     let so = c.loop-n.invariant in
-    bars_refused _ c.refused_bars-then-l-eq0.ensures (λ z. omega arith) so.line so.numbered so.within
-    (λ g. taps_bad so (few (goal.at.returns-then-l-eq0 c).At-loop-n) (missing (goal.at.returns-then-l-eq0 c).Else-text-at) (inside (goal.at.returns-then-l-eq0 c).Else-text-at) _ c.line_at-l.ensures g c.if-l-eq0.true 2)
+    let missing-here = missing (goal.at.returns-in_default c).In-loop-n in
+    let inside-here = inside (goal.at.returns-in_default c).Else-text-at in
+    let none = line_if_none _ c.in_default.ensures in (
+      so.within,
+      λ g. record {
+        is = taps_bad so c.requires.3 missing-here inside-here _ refl g none 2;
+        place = so.line;
+        numbered = so.numbered;
+      },
+    )
 
-pub returns-then-number-ne0 : goal.returns-then-number-ne0
-returns-then-number-ne0 c =
+pub returns-in-Err : goal.returns-in-Err
+returns-in-Err c =
     let so = c.loop-n.invariant in
-    bars_refused _ c.refused_bars-then-number-ne0.ensures c.if-number-ne0.true so.line so.numbered so.within
-    (taps_stop so (few (goal.at.returns-then-number-ne0 c).At-loop-n) (missing (goal.at.returns-then-number-ne0 c).Else-text-at) (inside (goal.at.returns-then-number-ne0 c).Else-text-at) _ c.line_at-l.ensures c.if-l-eq0.false _
-    c.tap_refusal-number.ensures c.if-number-ne0.true)
+    let missing-here = missing (goal.at.returns-in-Err c).In-loop-n in
+    let inside-here = inside (goal.at.returns-in-Err c).Else-text-at in
+    let (is, filled) = line_if_some c.in-Some.ensures in (
+      so.within,
+      λ g. record {
+        is = taps_stop so c.requires.3 missing-here inside-here _ is filled _ c.in-Err.ensures (number_some _) g;
+        place = so.line;
+        numbered = so.numbered;
+      },
+    )
 
 pub offset_bounds-lines-n : goal.offset_bounds-lines-n
-offset_bounds-lines-n c = let n = room (goal.at.offset_bounds-lines-n c).After-four_at-t in search rules
+offset_bounds-lines-n c = let n = room (goal.at.offset_bounds-lines-n c).In-loop-n in search rules
 
 pub bounds-lines-n : goal.bounds-lines-n
 bounds-lines-n c =
     let so = c.loop-n.invariant in
-    let size = ap length so.cells_are ∙ length-pad 65 0 so.taps in
-    let n = room (goal.at.bounds-lines-n c).After-four_at-t in
+    let size = ap length so.cells_are ∙ length-pad 65 (micros 0) _ in
+    let n = room (goal.at.bounds-lines-n c).In-loop-n in
     omega (arith, size, n)
-
-pub overflow_add-n : goal.overflow_add-n
-overflow_add-n c = let n = room (goal.at.overflow_add-n c).After-four_at-t in search rules
 
 pub overflow_add-line : goal.overflow_add-line
 overflow_add-line c =
     let so = c.loop-n.invariant in
     record { fits = omega (arith, so.line) }
 
-pub loop-n-smaller : goal.loop-n-smaller
-loop-n-smaller c = let m = missing (goal.at.loop-n-smaller c).Else-text-at in omega (arith, m)
-
 pub loop-n-preserved : goal.loop-n-preserved
 loop-n-preserved c =
-    taps_more c.loop-n.invariant (few (goal.at.loop-n-preserved c).At-loop-n) (missing (goal.at.loop-n-preserved c).Else-text-at) (inside (goal.at.loop-n-preserved c).Else-text-at) _ c.line_at-l.ensures c.if-l-eq0.false _
-    c.tap_refusal-number.ensures c.if-number-ne0.false _ c.four_at-t.ensures
+    let missing-here = missing (goal.at.loop-n-preserved c).In-loop-n in
+    let inside-here = inside (goal.at.loop-n-preserved c).Else-text-at in
+    let (is, filled) = line_if_some c.in-Some.ensures in
+    taps_more c.loop-n.invariant c.requires.3 missing-here inside-here _ is filled _ c.in_default-check_tap.ensures refl _ c.four_at.ensures
 
 pub returns : goal.returns
 returns c =
     let so = c.loop-n.invariant in
-    let all = c.loop-n-test.false in
+    let few = c.requires.3 in
     record {
-      stop = λ f. absurd (f refl);
       place = so.line;
       numbered = so.numbered;
       within = so.within;
-      done = λ z. taps_onsets so (few (goal.at.returns c).At-loop-n) (omega (arith, all));
-      good = λ z. taps_good so (few (goal.at.returns c).At-loop-n) (omega (arith, all));
+      rest = taps_onsets so few (omega (arith, c.loop-n-test.false));
+      good = taps_good so few (omega (arith, c.loop-n-test.false));
     }

@@ -1,5 +1,4 @@
 use Rattle.std.proofs.Common.{sym, ◌∙◌, arith}
-use Rattle.filling.specs.Order.{first_of}
 use Rattle.filling.specs.ArityLaws.{arity_most, arity_begin, arity_all, arity_room, arity_asked, arity_more}
 use Rattle.filling.proofs.fill.fill_arity.Goals as goal
 
@@ -7,8 +6,8 @@ pub overflow_add-k : goal.overflow_add-k
 overflow_add-k c =
     omega (arith, c.requires.1.eight)
 
-pub first_of-end-requires : goal.first_of-end-requires
-first_of-end-requires c =
+pub first_of-n-end-requires : goal.first_of-n-end-requires
+first_of-n-end-requires c =
     omega (arith, c.requires.1.eight)
 
 pub first_of-n-requires : goal.first_of-n-requires
@@ -17,25 +16,19 @@ first_of-n-requires c =
 
 pub loop-n-init : goal.loop-n-init
 loop-n-init c =
-    let first_of = c.first_of-end in
+    let first_of = c.first_of-n-end in
     let first-of2 = c.first_of-n in
     λ s e. arity_begin e first_of.ensures first-of2.ensures
 
 pub named_at-x-requires : goal.named_at-x-requires
 named_at-x-requires c =
-    let first_of = c.first_of-end in
-    let loop-test = c.loop-n-test in
-    omega (arith, arity_most c.requires.1 first_of.ensures, loop-test.true)
-
-pub overflow_add-n : goal.overflow_add-n
-overflow_add-n c =
-    let first_of = c.first_of-end in
+    let first_of = c.first_of-n-end in
     let loop-test = c.loop-n-test in
     omega (arith, arity_most c.requires.1 first_of.ensures, loop-test.true)
 
 pub rule_pair-y-requires : goal.rule_pair-y-requires
 rule_pair-y-requires c =
-    let first_of = c.first_of-end in
+    let first_of = c.first_of-n-end in
     let loop = c.loop-n in
     let loop-test = c.loop-n-test in
     let named-at = c.named_at-x in
@@ -45,7 +38,7 @@ rule_pair-y-requires c =
 
 pub overflow_mul-x : goal.overflow_mul-x
 overflow_mul-x c =
-    let first_of = c.first_of-end in
+    let first_of = c.first_of-n-end in
     let loop = c.loop-n in
     let loop-test = c.loop-n-test in
     let named-at = c.named_at-x in
@@ -55,7 +48,7 @@ overflow_mul-x c =
 
 pub lower-requires : goal.lower-requires
 lower-requires c =
-    let first_of = c.first_of-end in
+    let first_of = c.first_of-n-end in
     let loop = c.loop-n in
     let loop-test = c.loop-n-test in
     let named-at = c.named_at-x in
@@ -65,7 +58,7 @@ lower-requires c =
 
 pub loop-n-preserved : goal.loop-n-preserved
 loop-n-preserved c =
-    let first_of = c.first_of-end in
+    let first_of = c.first_of-n-end in
     let loop = c.loop-n in
     let loop-test = c.loop-n-test in
     let named-at = c.named_at-x in
@@ -85,7 +78,7 @@ shape_of-best c =
 
 pub returns : goal.returns
 returns c =
-    let first_of = c.first_of-end in
+    let first_of = c.first_of-n-end in
     let loop = c.loop-n in
     let loop-test = c.loop-n-test in
     λ s e. arity_all e first_of.ensures loop-test.false (loop.invariant s e).1

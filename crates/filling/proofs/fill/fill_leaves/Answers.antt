@@ -4,7 +4,7 @@ use Rattle.filling.proofs.fill.fill_leaves.Goals as goal
 
 pub loop-q-init : goal.loop-q-init
 loop-q-init c =
-    (omega arith, leaves_none c.requires.1)
+    leaves_none c.requires.1
 
 pub leaf_one-y-requires : goal.leaf_one-y-requires
 leaf_one-y-requires c =
@@ -20,31 +20,24 @@ pub put_pair-requires : goal.put_pair-requires
 put_pair-requires c =
     let loop = c.loop-q in
     let loop-test = c.loop-q-test in
-    leaves_room loop.invariant.1 (omega (arith, loop-test.true, c.requires.0))
-
-pub overflow_add-q : goal.overflow_add-q
-overflow_add-q c =
-    let loop-test = c.loop-q-test in
-    omega (arith, loop-test.true, c.requires.0)
+    leaves_room loop.invariant (omega (arith, loop-test.true, c.requires.0))
 
 pub loop-q-preserved : goal.loop-q-preserved
 loop-q-preserved c =
     let loop = c.loop-q in
     let loop-test = c.loop-q-test in
     let leaf-one = c.leaf_one-y in
-    let put-pair = c.put_pair in (
-      omega (arith, loop-test.true),
-      leaves_more loop.invariant.1 (omega (arith, loop-test.true, c.requires.0)) leaf-one.ensures put-pair.ensures,
-    )
+    let put-pair = c.put_pair in
+    leaves_more loop.invariant (omega (arith, loop-test.true, c.requires.0)) leaf-one.ensures put-pair.ensures
 
 pub shape_of-best : goal.shape_of-best
 shape_of-best c =
     let loop = c.loop-q in
-    loop.invariant.1.size ∙ sym c.requires.1
+    loop.invariant.size ∙ sym c.requires.1
 
 pub returns : goal.returns
 returns c =
     let loop = c.loop-q in
     let loop-test = c.loop-q-test in
-    let all : loop.q ≡ c.args.used = omega (arith, loop-test.false, loop.invariant.0) in
-    rw all at loop.invariant.1
+    let all : loop.q ≡ c.args.used = omega (arith, loop-test.false, loop.auto.q-end) in
+    rw all at loop.invariant

@@ -1,18 +1,14 @@
 use Rattle.std.proofs.Common.{◌≡◌, ◌≤◌, sym, refl, ◌∙◌, arith}
 use Rattle.filling.specs.LengthLaws.{length_asked, length_end, length_idle, part-length, part_positive, part_few}
 use Rattle.filling.specs.LengthLaws.{arity_asked, arity_told}
+use Rattle.filling.proofs.fill.fill_length.Goals.{in-Some, in_default}
 use Rattle.filling.proofs.fill.fill_length.Goals as goal
 
 pub loop-k-init : goal.loop-k-init
-loop-k-init c = (omega arith, omega arith, λ s e. e.done)
+loop-k-init c = λ s e. e.done
 
-pub overflow_add-k : goal.overflow_add-k
-overflow_add-k c =
-    let loop-test = c.loop-k-test in
-    omega (arith, loop-test.true)
-
-pub split_by-split-requires : goal.split_by-split-requires
-split_by-split-requires c =
+pub split_by-requires : goal.split_by-requires
+split_by-requires c =
     length_asked c.requires.1
 
 pub length-len-requires : goal.length-len-requires
@@ -20,8 +16,8 @@ length-len-requires c =
     let loop = c.loop-k in
     let less = c.loop-k-test in
     let e = c.requires.1 in
-    let told = c.split_by-split.ensures.1 _ e.in_bar_lem.prepared e.lone.length_in in
-    (part-length e loop.invariant.0 (omega (arith, less.true)) told c.if-split-ne0.true, (c.requires.0, e.in_bar_lem.prepared))
+    let told = c.in-Some.ensures.1 _ e.in_bar_lem.prepared e.lone.length_in in
+    (part-length e loop.auto.k (omega (arith, less.true)) told, (c.requires.0, e.in_bar_lem.prepared))
 
 pub nonzero_div-j : goal.nonzero_div-j
 nonzero_div-j c =
@@ -29,8 +25,8 @@ nonzero_div-j c =
     let less = c.loop-k-test in
     let length = c.length-len in
     let e = c.requires.1 in
-    let told = c.split_by-split.ensures.1 _ e.in_bar_lem.prepared e.lone.length_in in
-    omega (arith, part_positive e loop.invariant.0 (omega (arith, less.true)) told c.if-split-ne0.true length.ensures refl)
+    let told = c.in-Some.ensures.1 _ e.in_bar_lem.prepared e.lone.length_in in
+    omega (arith, part_positive e loop.auto.k (omega (arith, less.true)) told length.ensures refl)
 
 pub overflow_cast-j : goal.overflow_cast-j
 overflow_cast-j c =
@@ -38,8 +34,8 @@ overflow_cast-j c =
     let less = c.loop-k-test in
     let length = c.length-len in
     let e = c.requires.1 in
-    let told = c.split_by-split.ensures.1 _ e.in_bar_lem.prepared e.lone.length_in in
-    omega (arith, part_few e loop.invariant.0 (omega (arith, less.true)) told c.if-split-ne0.true length.ensures refl)
+    let told = c.in-Some.ensures.1 _ e.in_bar_lem.prepared e.lone.length_in in
+    omega (arith, part_few e loop.auto.k (omega (arith, less.true)) told length.ensures refl)
 
 pub fill_arity-requires : goal.fill_arity-requires
 fill_arity-requires c =
@@ -47,45 +43,33 @@ fill_arity-requires c =
     let less = c.loop-k-test in
     let length = c.length-len in
     let e = c.requires.1 in
-    let told = c.split_by-split.ensures.1 _ e.in_bar_lem.prepared e.lone.length_in in
-    let asked = arity_asked e loop.invariant.0 (omega (arith, less.true)) told c.if-split-ne0.true length.ensures refl in
-    (c.requires.0, asked (loop.invariant.2 _ e))
-
-pub loop-k-preserved-then-split-ne0 : goal.loop-k-preserved-then-split-ne0
-loop-k-preserved-then-split-ne0 c =
-    let loop = c.loop-k in
-    let less = c.loop-k-test in
-    let length = c.length-len in
-    let fill-arity = c.fill_arity in (
-      omega (arith, loop.invariant.0),
-      omega (arith, less.true),
-      λ s e.
-          let told = c.split_by-split.ensures.1 s e.in_bar_lem.prepared e.lone.length_in in
-          let eight : loop.k ≤ 8 = omega (arith, less.true) in
-          let b = loop.invariant.2 s e in
-          arity_told e loop.invariant.0 eight told c.if-split-ne0.true length.ensures refl b
-          (fill-arity.ensures s (arity_asked e loop.invariant.0 eight told c.if-split-ne0.true length.ensures refl b)),
-    )
+    let told = c.in-Some.ensures.1 _ e.in_bar_lem.prepared e.lone.length_in in
+    let asked = arity_asked e loop.auto.k (omega (arith, less.true)) told length.ensures refl in
+    (c.requires.0, asked (loop.invariant _ e))
 
 pub loop-k-preserved : goal.loop-k-preserved
 loop-k-preserved c =
-    let loop = c.loop-k in
-    let less = c.loop-k-test in (
-      omega (arith, loop.invariant.0),
-      omega (arith, less.true),
-      λ s e.
-          let told = c.split_by-split.ensures.1 s e.in_bar_lem.prepared e.lone.length_in in
-          length_idle e loop.invariant.0 (omega (arith, less.true)) told c.if-split-ne0.false (loop.invariant.2 s e),
-    )
+    let two = c.loop-k.auto.k in
+    let eight : c.loop-k.k ≤ 8 = omega (arith, c.loop-k-test.true) in
+    λ s e.
+    let b = c.loop-k.invariant s e in
+    elim c.match-split_by.branch [
+      | in-Some w ↦
+          let told = w.in-Some.ensures.1 s e.in_bar_lem.prepared e.lone.length_in in
+          rw w.best-is
+          (arity_told e two eight told w.length-len.ensures refl b
+          (w.fill_arity.ensures s (arity_asked e two eight told w.length-len.ensures refl b)))
+      | in_default w ↦ rw w.best-is (length_idle e two eight (w.in_default.ensures.1 s e.in_bar_lem.prepared e.lone.length_in) b)
+    ]
 
 pub shape_of-best : goal.shape_of-best
 shape_of-best c =
     let loop = c.loop-k in
-    (loop.invariant.2 _ c.requires.1).size ∙ sym c.requires.1.done.size
+    (loop.invariant _ c.requires.1).size ∙ sym c.requires.1.done.size
 
 pub returns : goal.returns
 returns c =
     let loop = c.loop-k in
     let loop-test = c.loop-k-test in
-    let nine : loop.k ≡ 9 = omega (arith, loop.invariant.1, loop-test.false) in
-    λ s e. length_end e nine (loop.invariant.2 s e)
+    let nine : loop.k ≡ 9 = omega (arith, loop.auto.k-end, loop-test.false) in
+    λ s e. length_end e nine (loop.invariant s e)

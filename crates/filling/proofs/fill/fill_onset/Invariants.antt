@@ -10,6 +10,3 @@ abbrev pub invariant-loop-l : goal.invariant-loop-l
 invariant-loop-l l =
     (s : Sheet) → OnsetEntry s l.plan l.units l.order l.initial.rows l.initial.pairs l.bar l.from
     → (l.l ≤ lengths s) × FilledAt s l.order l.rows l.pairs l.best l.bar l.from l.l
-
-abbrev pub decreases-loop-l : goal.decreases-loop-l
-decreases-loop-l l = l.l

@@ -6,8 +6,8 @@ use Rattle.filling.proofs.fill.lower.Goals as goal
 pub returns : goal.returns
 returns c =
     let pair-at = c.pair_at-y in
-    let least = c.least-zero in
-    let least2 = c.least-one in
+    let least = c.min-zero in
+    let least2 = c.min-one in
     let put-pair = c.put_pair in
     let cells = c.args.cells.now in
     let at = c.args.at in

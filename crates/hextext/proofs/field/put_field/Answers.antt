@@ -5,12 +5,12 @@ use lib.ListN.{length-set}
 use Rattle.hextext.proofs.FieldSteps.{field_more, field_none}
 use Rattle.hextext.proofs.field.put_field.Goals as goal
 
-pub loop-left-init : goal.loop-left-init
-loop-left-init c = (search rules, c.requires, refl, refl)
+pub loop-i-init : goal.loop-i-init
+loop-i-init c = (search rules, c.requires, refl, refl)
 
-pub loop-left-preserved : goal.loop-left-preserved
-loop-left-preserved c =
-    let loop = c.loop-left in (
+pub loop-i-preserved : goal.loop-i-preserved
+loop-i-preserved c =
+    let loop = c.loop-i in (
       search rules,
       rw length-set loop.invariant.1,
       length-set loop.line _ _ ∙ loop.invariant.2,
@@ -19,4 +19,4 @@ loop-left-preserved c =
     )
 
 pub returns : goal.returns
-returns c = field_none _ _ _ _ (omega arith) ∙ c.loop-left.invariant.3
+returns c = field_none _ _ _ _ (omega arith) ∙ c.loop-i.invariant.3

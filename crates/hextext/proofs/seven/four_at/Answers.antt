@@ -11,5 +11,5 @@ returns c =
     let text = c.args.text.now in
     let i = c.args.i in
     let last : i + 3 ≡ i + 2 + 1 = omega arith in
-    λ j. c.pair_in-high.ensures.0 j * 256
-    + (c.pair_in-low.ensures.0 ∙ ap (λ (k : ℕ). digit_at 16 (get_or text (i + 2) 0) + digit_at 1 (get_or text k 0)) last) j
+    λ j. c.pair-high.ensures.0 j * 256
+    + (c.pair-low.ensures.0 ∙ ap (λ (k : ℕ). digit_at 16 (get_or text (i + 2) 0) + digit_at 1 (get_or text k 0)) last) j

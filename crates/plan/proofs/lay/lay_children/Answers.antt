@@ -5,19 +5,19 @@ use Rattle.plan.proofs.LaySteps.{laid_none, laid_more}
 use Rattle.plan.proofs.lay.lay_children.Goals as goal
 
 pub loop-i-init : goal.loop-i-init
-loop-i-init c = (omega arith, laid_none _ _ _)
+loop-i-init c = laid_none _ _ _
 
 pub overflow_cast-plan : goal.overflow_cast-plan
 overflow_cast-plan c = omega (arith, c.requires.1 c.loop-i.i)
 
 pub loop-i-preserved : goal.loop-i-preserved
-loop-i-preserved c = let loop = c.loop-i in (search rules, laid_more loop.invariant.1 (search rules) refl)
+loop-i-preserved c = let loop = c.loop-i in laid_more loop.invariant (search rules) refl
 
 pub shape_of-plan : goal.shape_of-plan
-shape_of-plan c = c.loop-i.invariant.1.size
+shape_of-plan c = c.loop-i.invariant.size
 
 pub returns : goal.returns
 returns c =
     let loop = c.loop-i in
-    let all : loop.i ≡ 512 = omega (arith, loop.invariant.0, c.loop-i-test.false) in
-    rw (← all) loop.invariant.1
+    let all : loop.i ≡ 512 = omega arith in
+    rw (← all) loop.invariant

@@ -1,12 +1,8 @@
 -- `lay_lengths` meets its contract: the first i cells are laid. Assumes nothing.
-use Prim.Native.Nat.{◌-◌, ◌≤◌}
 use lib.ListN.{get_or}
 use Rattle.plan.specs.Layout.{lengths_at}
 use Rattle.plan.specs.Sections.{Laid}
 use Rattle.plan.proofs.lay.lay_lengths.Given as goal
 
 abbrev pub invariant-loop-i : goal.invariant-loop-i
-invariant-loop-i l = (l.i ≤ 84) × Laid (λ j. get_or l.lens j 0) l.initial.plan l.plan lengths_at l.i
-
-abbrev pub decreases-loop-i : goal.decreases-loop-i
-decreases-loop-i l = 84 - l.i
+invariant-loop-i l = Laid (λ j. get_or l.lens j 0) l.initial.plan l.plan lengths_at l.i

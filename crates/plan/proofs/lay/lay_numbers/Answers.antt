@@ -2,7 +2,6 @@ use Prim.Native.Nat.{◌<◌}
 use native.Mathlib.Omega.{arith}
 use mathlib.Core.Path.{◌≡◌, ◌∙◌}
 use lib.ListN.{length, set, length-set}
-use borrow.Author.Rules.{rules}
 use Rattle.plan.specs.Layout.{multiplier_at, nonterminals_at, length_count_at, plan_cells}
 use Rattle.plan.specs.Sections.{NumbersLaid}
 use Rattle.plan.proofs.LaySteps.{saved_none, saved_more, numbers_laid}
@@ -10,23 +9,19 @@ use Rattle.plan.proofs.lay.lay_numbers.Goals.{After-loop-c}
 use Rattle.plan.proofs.lay.lay_numbers.Goals as goal
 
 plan-size : (c : After-loop-c) → length (c.loop-c.plan) ≡ plan_cells
-plan-size c = c.loop-c.invariant.1.size ∙ c.requires.0
+plan-size c = c.loop-c.invariant.size ∙ c.requires.0
 
 -- with all three it is laid
 laid : (c : After-loop-c)
     → NumbersLaid c.args.leaves.now c.args.a c.args.heads c.args.count
     c.args.plan.now (set ((set ((set (c.loop-c.plan) multiplier_at c.args.a)) nonterminals_at c.args.heads)) length_count_at c.args.count)
-laid c = numbers_laid c.loop-c.invariant.1 c.requires.0 (omega (arith, c.loop-c-test.false))
+laid c = numbers_laid c.loop-c.invariant c.requires.0 (omega (arith, c.loop-c-test.false))
 
 pub loop-c-init : goal.loop-c-init
-loop-c-init c = (omega arith, saved_none)
+loop-c-init c = saved_none
 
 pub loop-c-preserved : goal.loop-c-preserved
-loop-c-preserved c = (
-  search rules,
-  saved_more c.loop-c.invariant.1 c.requires.0 c.loop-c-test.true
-      c.saved_by.ensures,
-)
+loop-c-preserved c = saved_more c.loop-c.invariant c.requires.0 c.loop-c-test.true c.saved_by.ensures
 
 pub bounds-plan-1597 : goal.bounds-plan-1597
 bounds-plan-1597 c = omega (arith, plan-size (goal.at.bounds-plan-1597 c).After-loop-c)

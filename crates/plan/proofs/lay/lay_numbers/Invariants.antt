@@ -1,10 +1,6 @@
 -- `lay_numbers` meets its contract: what the first c carry states save is laid, and then the three numbers. Assumes nothing.
-use Prim.Native.Nat.{◌-◌, ◌≤◌}
 use Rattle.plan.proofs.LaySteps.{SavedLaid}
 use Rattle.plan.proofs.lay.lay_numbers.Given as goal
 
 abbrev pub invariant-loop-c : goal.invariant-loop-c
-invariant-loop-c l = (l.c ≤ 4) × SavedLaid l.leaves l.heads l.initial.plan l.plan l.c
-
-abbrev pub decreases-loop-c : goal.decreases-loop-c
-decreases-loop-c l = 4 - l.c
+invariant-loop-c l = SavedLaid l.leaves l.heads l.initial.plan l.plan l.c

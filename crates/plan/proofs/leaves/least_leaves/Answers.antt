@@ -1,22 +1,16 @@
 use mathlib.Core.Path.{refl}
 use native.Mathlib.Omega.{arith}
 use Rattle.plan.proofs.LeafSteps.{packed_none, packed_all}
-use Rattle.plan.proofs.LeafSteps.{lowered_division, lowered_past, lowered_kept, lowered-set}
+use Rattle.plan.proofs.LeafSteps.{lowered_other, lowered_past, lowered_kept, lowered-set}
 use Rattle.plan.proofs.RuleSteps.{weighted_most}
 use borrow.Author.Rules.{rules}
+use Rattle.plan.proofs.leaves.least_leaves.Goals.{in-Leaf+then-at-lt-LEAF_CELLS+then-cell-leaves, in-Leaf+else-at-lt-LEAF_CELLS}
+use Rattle.plan.proofs.leaves.least_leaves.Goals.{else-at-lt-LEAF_CELLS-via-then-at-lt-LEAF_CELLS+else-cell-leaves}
+use Rattle.plan.proofs.leaves.least_leaves.Goals.{else-at-lt-LEAF_CELLS-via-else-at-lt-LEAF_CELLS, in_default}
 use Rattle.plan.proofs.leaves.least_leaves.Goals as goal
 
 pub loop-r-init : goal.loop-r-init
-loop-r-init c = (search rules, refl, λ s t m. packed_none s)
-
-pub loop-r-preserved-in-Division : goal.loop-r-preserved-in-Division
-loop-r-preserved-in-Division c =
-    let call = c.rule_at-rule in
-    let told = c.in-Division.is in (
-      search rules,
-      search rules,
-      lowered_division _ _ c.loop-r.leaves _ c.loop-r.invariant.2 (omega arith) _ call.ensures _ _ _ told,
-    )
+loop-r-init c = (refl, λ s t m. packed_none s)
 
 pub overflow_mul-cell : goal.overflow_mul-cell
 overflow_mul-cell c =
@@ -33,35 +27,27 @@ overflow_add-cell c =
     let weight = c.in-Leaf.weight in
     omega (arith, weighted_most c.args.a weight (search rules) (search rules))
 
-pub loop-r-preserved-then-cell-leaves : goal.loop-r-preserved-then-cell-leaves
-loop-r-preserved-then-cell-leaves c =
-    let call = c.rule_at-rule in
-    let told = c.in-Leaf.is in
-    let size = c.loop-r.invariant.1 in (
-      search rules,
-      search rules,
-      lowered-set _ _ c.loop-r.leaves _ c.loop-r.invariant.2 (omega arith) _ call.ensures _ _ _ told size c.if-at-lt-LEAF_CELLS.true
-          c.if-cell-leaves.true,
-    )
-
-pub loop-r-preserved-else-cell-leaves : goal.loop-r-preserved-else-cell-leaves
-loop-r-preserved-else-cell-leaves c =
-    let call = c.rule_at-rule in
-    let told = c.in-Leaf.is in (
-      search rules,
-      search rules,
-      lowered_kept _ _ c.loop-r.leaves _ c.loop-r.invariant.2 (omega arith) _ call.ensures _ _ _ told c.if-cell-leaves.false,
-    )
-
 pub loop-r-preserved : goal.loop-r-preserved
 loop-r-preserved c =
-    let call = c.rule_at-rule in
-    let told = c.in-Leaf.is in (
-      search rules,
-      search rules,
-      lowered_past _ _ c.loop-r.leaves _ c.loop-r.invariant.2 (omega arith) _ call.ensures _ _ _ told c.if-at-lt-LEAF_CELLS.false,
-    )
+    let rule = c.rule_at.ensures in
+    let size = c.loop-r.invariant.0 in
+    let so_far = c.loop-r.invariant.1 in
+    elim c.match-rule_at.branch [
+      | in-Leaf+then-at-lt-LEAF_CELLS+then-cell-leaves w ↦
+          rw w.leaves-is (
+            search rules,
+            lowered-set _ _ _ _ so_far (omega arith) _ rule _ _ _ w.in-Leaf.is size w.if-at-lt-LEAF_CELLS.true w.if-cell-leaves.true,
+          )
+      | in-Leaf+else-at-lt-LEAF_CELLS w ↦
+          elim w.else-at-lt-LEAF_CELLS.branch [
+            | else-at-lt-LEAF_CELLS-via-then-at-lt-LEAF_CELLS+else-cell-leaves v ↦
+                rw w.leaves-is (size, lowered_kept _ _ _ _ so_far (omega arith) _ rule _ _ _ w.in-Leaf.is v.if-cell-leaves.false)
+            | else-at-lt-LEAF_CELLS-via-else-at-lt-LEAF_CELLS v ↦
+                rw w.leaves-is (size, lowered_past _ _ _ _ so_far (omega arith) _ rule _ _ _ w.in-Leaf.is v.if-at-lt-LEAF_CELLS.false)
+          ]
+      | in_default w ↦ rw w.leaves-is (size, lowered_other _ _ _ _ so_far (omega arith) _ rule w.in_default.not-Leaf)
+    ]
 
 pub returns : goal.returns
 returns c =
-    λ s t m n. packed_all s c.loop-r.leaves c.loop-r.r (c.loop-r.invariant.2 s t m) (omega (arith, n))
+    λ s t m n. packed_all s c.loop-r.leaves c.loop-r.r (c.loop-r.invariant.1 s t m) (omega (arith, n))

@@ -1,7 +1,6 @@
 use Prim.Native.Nat.{◌+◌}
 use mathlib.Core.Path.{◌≡◌, ap, ◌∙◌}
 use native.Mathlib.Omega.{arith}
-use borrow.Author.Rules.{rules}
 use Rattle.sizes.specs.Sizes.{largest}
 use Rattle.plan.specs.Plan.{saved_at}
 use Rattle.plan.specs.PlanLaws.{token_below}
@@ -9,7 +8,7 @@ use Rattle.plan.proofs.SavedSteps.{largest_none, largest_next, saved_cell_lem}
 use Rattle.plan.proofs.leaves.saved_at.Goals as goal
 
 pub loop-e-init : goal.loop-e-init
-loop-e-init c = (search rules, λ s g t. largest_none (saved_at s _ _))
+loop-e-init c = λ s g t. largest_none (saved_at s _ _)
 
 pub overflow_add-q : goal.overflow_add-q
 overflow_add-q c =
@@ -33,17 +32,15 @@ pub loop-e-preserved : goal.loop-e-preserved
 loop-e-preserved c =
     let loop = c.loop-e in
     let q = c.args.q in
-    let c₀ = c.args.c in (
-      search rules,
-      λ s g t.
-          let less : _ ≡ saved_at s q c₀ loop.e =
-          saved_cell_lem s g c.args.leaves.now t q c₀ loop.e c.token_of-none.result c.token_of-some.result
-          c.requires.0 c.token_of-none.ensures c.token_of-some.ensures in
-          largest_next (saved_at s q c₀) loop.e loop.most _ _ (loop.invariant.1 s g t) (c.excess-x.ensures ∙ less)
-          c.larger-most.ensures,
-    )
+    let c₀ = c.args.c in
+    λ s g t.
+    let less : _ ≡ saved_at s q c₀ loop.e =
+    saved_cell_lem s g c.args.leaves.now t q c₀ loop.e c.token_of-none.result c.token_of-some.result
+    c.requires.0 c.token_of-none.ensures c.token_of-some.ensures in
+    largest_next (saved_at s q c₀) loop.e loop.most _ _ (loop.invariant s g t) (c.saturating_sub-saved.ensures ∙ less)
+    c.max-most.ensures
 
 pub returns : goal.returns
 returns c =
     let loop = c.loop-e in
-    λ s g t. loop.invariant.1 s g t ∙ ap (largest (saved_at s _ _)) (omega (arith, loop.invariant.0, c.loop-e-test.false))
+    λ s g t. loop.invariant s g t ∙ ap (largest (saved_at s _ _)) (omega arith)

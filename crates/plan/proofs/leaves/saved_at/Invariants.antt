@@ -1,6 +1,4 @@
--- `saved_at` meets its contract. The loop's invariant: `most` is the most that is saved at the first `e` kinds. The measure is the number
--- of kinds left. Assumes nothing.
-use Prim.Native.Nat.{◌-◌, ◌≤◌}
+-- `saved_at` meets its contract. The loop's invariant: `most` is the most that is saved at the first `e` kinds. Assumes nothing.
 use mathlib.Core.Path.{◌≡◌}
 use Rattle.sheet.specs.Sheet.{Sheet}
 use Rattle.sheet.specs.Good.{GoodRules}
@@ -10,8 +8,5 @@ use Rattle.plan.specs.Sections.{PackedLeaves}
 use Rattle.plan.proofs.leaves.saved_at.Given as goal
 
 abbrev pub invariant-loop-e : goal.invariant-loop-e
-invariant-loop-e l = (l.e ≤ 4) × ((s : Sheet) → GoodRules s.grammar → PackedLeaves s l.leaves
-    → l.most ≡ largest (saved_at s l.q l.c) l.e)
-
-abbrev pub decreases-loop-e : goal.decreases-loop-e
-decreases-loop-e l = 4 - l.e
+invariant-loop-e l = (s : Sheet) → GoodRules s.grammar → PackedLeaves s l.leaves
+    → l.most ≡ largest (saved_at s l.q l.c) l.e

@@ -1,6 +1,4 @@
--- `saved_by` meets its contract. The loop's invariant: `most` is the most that is saved at the first `q` nonterminals. The measure is the
--- number of nonterminals left. Assumes nothing.
-use Prim.Native.Nat.{◌-◌, ◌≤◌}
+-- `saved_by` meets its contract. The loop's invariant: `most` is the most that is saved at the first `q` nonterminals. Assumes nothing.
 use mathlib.Core.Path.{◌≡◌}
 use Rattle.sheet.specs.Sheet.{Sheet}
 use Rattle.sheet.specs.Good.{GoodRules}
@@ -11,7 +9,4 @@ use Rattle.plan.proofs.leaves.saved_by.Given as goal
 
 abbrev pub invariant-loop-q : goal.invariant-loop-q
 invariant-loop-q l =
-    (l.q ≤ l.heads) × ((s : Sheet) → GoodRules s.grammar → PackedLeaves s l.leaves → l.most ≡ largest (λ p. largest (saved_at s p l.c) 4) l.q)
-
-abbrev pub decreases-loop-q : goal.decreases-loop-q
-decreases-loop-q l = l.heads - l.q
+    (s : Sheet) → GoodRules s.grammar → PackedLeaves s l.leaves → l.most ≡ largest (λ p. largest (saved_at s p l.c) 4) l.q

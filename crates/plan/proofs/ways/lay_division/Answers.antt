@@ -1,7 +1,6 @@
 use Prim.Native.Nat.{◌+◌, ◌-◌, ◌*◌, ◌≤◌}
 use mathlib.Core.Path.{◌≡◌, ap, subst, ◌∙◌}
 use native.Mathlib.Omega.{arith}
-use borrow.Author.Rules.{rules}
 use Rattle.groups.specs.Sums.{sum_to}
 use Rattle.plan.specs.Sections.{rest_in, DivisionWays}
 use Rattle.plan.proofs.WaySteps.{rest_least, rest_behind, division_none, division_more}
@@ -35,7 +34,7 @@ pub overflow_add-all : goal.overflow_add-all
 overflow_add-all c = omega (arith, c.requires.1, c.rest_sum.ensures.0)
 
 pub loop-j-init : goal.loop-j-init
-loop-j-init c = (omega arith, division_none)
+loop-j-init c = division_none
 
 pub overflow_cast-q : goal.overflow_cast-q
 overflow_cast-q c =
@@ -52,7 +51,7 @@ lay_part-requires c =
     let told = c.args in
     let pre = c.requires in
     let sum = c.rest_sum.ensures in (
-      c.loop-j.invariant.1.size ∙ pre.0,
+      c.loop-j.invariant.size ∙ pre.0,
       pre.2,
       pre.3,
       c.loop-j-test.true,
@@ -64,17 +63,15 @@ lay_part-requires c =
     )
 
 pub loop-j-preserved : goal.loop-j-preserved
-loop-j-preserved c = (
-  search rules,
-  division_more c.loop-j.invariant.1 c.loop-j-test.true (whole (goal.at.loop-j-preserved c).After-placed_cost-own)
-      c.placed_cost-own.ensures.1 c.lay_part.ensures,
-)
+loop-j-preserved c =
+    division_more c.loop-j.invariant c.loop-j-test.true (whole (goal.at.loop-j-preserved c).After-placed_cost-own)
+    c.placed_cost-own.ensures.1 c.lay_part.ensures
 
 pub shape_of-plan : goal.shape_of-plan
-shape_of-plan c = c.loop-j.invariant.1.size
+shape_of-plan c = c.loop-j.invariant.size
 
 pub returns : goal.returns
 returns c =
     let loop = c.loop-j in
-    let all : loop.j ≡ c.args.k = omega (arith, loop.invariant.0, c.loop-j-test.false) in
-    subst (DivisionWays _ _ _ _ _ _ loop.plan) all loop.invariant.1
+    let all : loop.j ≡ c.args.k = omega arith in
+    subst (DivisionWays _ _ _ _ _ _ loop.plan) all loop.invariant

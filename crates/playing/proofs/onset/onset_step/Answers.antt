@@ -1,43 +1,40 @@
 -- `onset_step` meets its contract: form, moment and room are asked one after the other. Assumes nothing.
 use mathlib.Core.Path.{sym, ◌∙◌}
+use Rattle.std.proofs.lemmas.Result.{err_from_is_err_and}
+use Rattle.sheet.specs.Refusal.{number_some}
 use Rattle.playing.specs.Clauses.{tapped_in}
-use Rattle.playing.proofs.OnsetSteps.{other_line, other_number, step_stopped, by_form, by_moment, moment_is, step_placed}
+use Rattle.playing.proofs.OnsetSteps.{other_line, by_form, by_moment, moment_is, step_placed}
 use Rattle.playing.proofs.onset.onset_step.Goals as goal
 
 -- a line of another kind
-pub returns-then-l-ne78 : goal.returns-then-l-ne78
-returns-then-l-ne78 c b h g p last good eb en es =
-    let is = c.other_refusal-other.ensures in
-    step_stopped g _ _ p last b c.refused_step.result _ c.refused_step.ensures
-    (other_line g _ _ p last b (λ z. c.if-l-ne78.true (h.kind ∙ z)) ∙ sym (is b h.kind)) (other_number _ _ _ is)
+pub returns-then-l : goal.returns-then-l
+returns-then-l c b h g p last good eb en es =
+    c.other_refusal.ensures b h.kind ∙ sym (other_line g _ _ p last b (λ z. c.if-l.true (h.kind ∙ z)))
 
 -- refused by its form
-pub returns-then-form-ne0 : goal.returns-then-form-ne0
-returns-then-form-ne0 c b h g p last good eb en es =
-    let f = c.if-form-ne0.true in
-    let form = c.form_refusal-form.ensures.0 b h in
-    step_stopped g _ _ p last b c.refused_step-then-form-ne0.result _ c.refused_step-then-form-ne0.ensures
-    (by_form g _ _ p last b (sym h.kind ∙ c.if-l-ne78.false) (λ z. f (form ∙ z)) ∙ sym form) f
+pub returns-in_err-check_form : goal.returns-in_err-check_form
+returns-in_err-check_form c b h g p last good eb en es =
+    let q = err_from_is_err_and c.from_residual.result c.from_residual.ensures.1 in
+    let form = c.in_err-check_form.ensures.0 b h in
+    rw (q.1, q.2)
+    (form ∙ sym (by_form g _ _ p last b (sym h.kind ∙ c.if-l.false) (λ z. number_some _ (form ∙ z))))
 
-pub moment_of-moment-requires : goal.moment_of-moment-requires
-moment_of-moment-requires c = c.requires
+pub moment_of-requires : goal.moment_of-requires
+moment_of-requires c = c.requires
 
 -- refused by its moment
-pub returns-then-refusal-ne0 : goal.returns-then-refusal-ne0
-returns-then-refusal-ne0 c b h g p last good eb en es =
-    let f = c.if-refusal-ne0.true in
+pub returns-in_err-unit : goal.returns-in_err-unit
+returns-in_err-unit c b h g p last good eb en es =
+    let q = err_from_is_err_and c.from_residual-in_err-unit.result c.from_residual-in_err-unit.ensures.1 in
     let tapped = tapped_in c.args.clock in
-    let moment =
-    c.moment_of-moment.ensures.number ∙ moment_is g tapped _ p last b good _ _ _ eb en es _ (c.four_at.ensures b h) in
-    let formed = sym (c.form_refusal-form.ensures.0 b h) ∙ c.if-form-ne0.false in
-    step_stopped g _ _ p last b c.refused_step-then-refusal-ne0.result _ c.refused_step-then-refusal-ne0.ensures
-    (by_moment g _ _ p last b (sym h.kind ∙ c.if-l-ne78.false) formed (λ z. f (moment ∙ z)) ∙ sym moment) f
+    let moment = c.in_err-unit.ensures ∙ moment_is g tapped _ p last b good _ _ _ eb en es _ (c.four_at.ensures b h) in
+    let formed = sym (c.in_ok-check_form.ensures.0 b h) in
+    rw (q.1, q.2)
+    (moment ∙ sym (by_moment g _ _ p last b (sym h.kind ∙ c.if-l.false) formed (λ z. number_some _ (moment ∙ z))))
 
 -- by the room for it
 pub returns : goal.returns
 returns c b h g p last good eb en es =
-    let z = c.if-refusal-ne0.false in
-    let moment = c.moment_of-moment.ensures in
-    step_placed g _ _ p last b good _ _ _ eb en es (sym h.kind ∙ c.if-l-ne78.false)
-    (sym (c.form_refusal-form.ensures.0 b h) ∙ c.if-form-ne0.false) _ _ (c.four_at.ensures b h) (sym moment.number ∙ z)
-    (moment.unit z) c.placed_step.result c.placed_step.ensures
+    let moment = c.in_ok-unit.ensures in
+    step_placed g _ _ p last b good _ _ _ eb en es (sym h.kind ∙ c.if-l.false)
+    (sym (c.in_ok-check_form.ensures.0 b h)) _ _ (c.four_at.ensures b h) (sym moment.0) moment.1 c.placed_step.result c.placed_step.ensures

@@ -12,12 +12,12 @@ too_many : (d : ℕ) (b : List ℕ) → d ≡ 0 → byte b 0 ≡ 0x42 → 17 ≡
 unfolding other_refusal
 too_many d b none kind = simp (eq-eqb d 0 none, eq-eqb (byte b 0) 0x42 kind)
 
-pub returns-then-kind-eq66 : goal.returns-then-kind-eq66
-returns-then-kind-eq66 c b e = too_many _ b c.if-duration-eq0.true (sym e ∙ c.if-kind-eq66.true)
+pub returns-then-kind : goal.returns-then-kind
+returns-then-kind c b e = too_many _ b c.if-duration-eq0.true (sym e ∙ c.if-kind.true)
 
-pub returns-else-kind-eq66 : goal.returns-else-kind-eq66
+pub returns-else-kind : goal.returns-else-kind
 unfolding other_refusal
-returns-else-kind-eq66 c b e = simp (eq-eqb _ 0 c.if-duration-eq0.true, ne_eqb _ 0x42 (λ z. c.if-kind-eq66.false (e ∙ z)))
+returns-else-kind c b e = simp (eq-eqb _ 0 c.if-duration-eq0.true, ne_eqb _ 0x42 (λ z. c.if-kind.false (e ∙ z)))
 
 pub returns-else-duration-eq0 : goal.returns-else-duration-eq0
 unfolding other_refusal

@@ -2,6 +2,7 @@
 use native.Mathlib.Omega.{arith}
 use Prim.Native.Nat.{ℕ, ◌+◌}
 use mathlib.Core.Path.{refl, sym, ap, ◌∙◌}
+use Rattle.std.proofs.lemmas.Result.{err_from_is_err_and}
 use Rattle.sheet.specs.Sheet.{bar_of}
 use Rattle.sheet.specs.Reading.{room_refusal}
 use Rattle.sheet.specs.Held.{micros}
@@ -9,19 +10,14 @@ use Rattle.sheet.specs.PlayingLaws.{room_passed}
 use Rattle.playing.proofs.onset.placed_step.Goals as goal
 
 -- for want of room
-pub returns-then-room-ne0 : goal.returns-then-room-ne0
-returns-then-room-ne0 c =
-    let f = c.if-room-ne0.true in
-    let e = c.refused_step.ensures in
-    record {
-      number = e ∙ c.room_refusal-room.ensures ∙ ap (room_refusal _) c.run_in-here.ensures;
-      unit = λ z. absurd (f (sym e ∙ z));
-      latest = λ z. absurd (f (sym e ∙ z));
-    }
+pub returns-in_err-check_room : goal.returns-in_err-check_room
+returns-in_err-check_room c =
+    let p = err_from_is_err_and c.from_residual.result c.from_residual.ensures.1 in
+    rw (p.1, p.2) (c.in_err-check_room.ensures ∙ ap (room_refusal _) c.run_in-here.ensures)
 
 pub overflow_add-result : goal.overflow_add-result
 overflow_add-result c =
-    let few = (room_passed _ _ (sym c.room_refusal-room.ensures ∙ c.if-room-ne0.false)).1 in
+    let few = (room_passed _ _ (sym c.in_ok-check_room.ensures)).1 in
     record { fits = omega (arith, few) }
 
 pub returns : goal.returns
@@ -29,7 +25,7 @@ returns c =
     let here = c.run_in-here.ensures in
     let args = c.args in
     record {
-      number = sym c.if-room-ne0.false ∙ c.room_refusal-room.ensures ∙ ap (room_refusal args.count) here;
-      unit = λ z. refl;
-      latest = λ z j. record { time = micros args.t.0; bar = bar_of args.unit.0; run = ap (λ (k : ℕ). k + 1) here j };
+      number = c.in_ok-check_room.ensures ∙ ap (room_refusal args.count) here;
+      unit = refl;
+      latest = λ j. record { time = micros args.t.0; bar = bar_of args.unit.0; run = ap (λ (k : ℕ). k + 1) here j };
     }

@@ -2,6 +2,7 @@
 use mathlib.Core.Bool.{false≢true}
 use mathlib.Core.Logic.{inl, inr}
 use native.Mathlib.Omega.{arith}
+use borrow.Author.Tests.{ltb-true, eqb-false, not-true}
 use Rattle.rows.specs.SavedLaws.{saved_most}
 use Rattle.rows.proofs.carry.idle_at.Goals as goal
 
@@ -18,18 +19,15 @@ overflow_add-zero c =
     let p = c.requires.2.1 in
     omega (arith, c.requires.1, c.saved.ensures, p.saved_are c.args.c few, saved_most s c.args.c)
 
-pub returns-then-before-ne0 : goal.returns-then-before-ne0
-returns-then-before-ne0 c =
-    λ s v p ez ea _.
+pub returns-then-zero-saved : goal.returns-then-zero-saved
+returns-then-zero-saved c =
+    λ s v p ez ea t.
     let cell = p.saved_are c.args.c c.requires.0 in
     inr (
       omega (arith, c.if-c-eq0.false),
-      omega (arith, c.if-before-ne0.true),
+      omega (arith, eqb-false _ _ (not-true _ t)),
       omega (arith, c.if-zero-saved.true, c.saved.ensures, cell, ez, ea),
     )
 
-pub returns-else-before-ne0 : goal.returns-else-before-ne0
-returns-else-before-ne0 c = λ s v p ez ea f. absurd (false≢true f)
-
 pub returns-else-zero-saved : goal.returns-else-zero-saved
-returns-else-zero-saved c = λ s v p ez ea f. absurd (false≢true f)
+returns-else-zero-saved c = λ s v p ez ea f. absurd (omega (arith, ltb-true _ _ f, c.if-zero-saved.false))

@@ -37,7 +37,7 @@ returns-then-late-lt4 c =
     let place = c.place-placed in
     let token-of = c.token_of-kind in
     let leaf_cell_lem = c.leaf_cell-w in
-    let least = c.least-x in
+    let least = c.min-x in
     λ s h.
     leaf_row_is h (place.ensures s h.entered.here) token-of.ensures leaf_cell_lem.ensures least.ensures c.if-late-lt4.true
 

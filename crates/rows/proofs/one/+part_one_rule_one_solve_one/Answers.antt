@@ -3,12 +3,14 @@
 -- and `one` are cells 0 and 1 of the lesser of what is packed of a leaf and of the first r rules (`Ruled`), and the table is sound, for
 -- every sheet that stands behind the tables. The needs of each member are met in a file of its own. Assumes nothing.
 use mathlib.Core.Path.{ap, refl, sym, ◌∙◌}
+use Rattle.std.specs.declared.option.Option.TheVariants.{Some, None}
 use native.Mathlib.Omega.{arith}
 use lib.ListN.{get_or}
 use Rattle.rows.specs.NameLaws.{stands_bar, solve_room, stands-length, stands_head, solve_stored}
 use Rattle.rows.specs.OneCallLaws.{part_slot, part_solve, part_loaded, rule_length, rule_positive, rule_child, rule_near, rule_part, rule_way, rule_told, one_place, one_behind, leaf_one_asked, leaf_one_told, rule_asked}
 use Rattle.rows.specs.TurnLaws.{ruled_low, ruled_idle}
-use Rattle.rows.specs.SolveLaws.{last_in, place_in, division_at, split_told, rules_begin, rules_here, rules_next, rules_end, parts_shorter}
+use Rattle.rows.specs.SolveLaws.{place_in, division_at, split_told, rules_begin, rules_here, rules_next, rules_end, parts_shorter}
+use Rattle.rows.proofs.one.+part_one_rule_one_solve_one.Goals.{solve_one-in-Some, solve_one-in_default}
 use Rattle.rows.proofs.one.+part_one_rule_one_solve_one.Goals as goal
 
 -- ---- part_one
@@ -109,8 +111,8 @@ rule_one-returns t c =
     let child = c.child-q in
     let part-one = c.part_one-y in
     let by_way = c.by_way-x in
-    let least = c.least in
-    let least2 = c.least-2 in
+    let least = c.min in
+    let least2 = c.min-2 in
     λ s e.
     let row = part-one.ensures s (rule_part e length.ensures refl child.ensures) in
     rule_told e length.ensures refl child.ensures row by_way.ensures least.ensures least2.ensures
@@ -131,8 +133,8 @@ solve_one-bounds-units-from t c = omega (arith, one_place c.requires.1)
 pub solve_one-overflow_sub-d : goal.solve_one-overflow_sub-d
 solve_one-overflow_sub-d t c = omega (arith, one_behind c.requires.1)
 
-pub solve_one-last_division-last-requires : goal.solve_one-last_division-last-requires
-solve_one-last_division-last-requires t c = stands_head c.requires.1.entry.entry.stands
+pub solve_one-last_division-n-end-requires : goal.solve_one-last_division-n-end-requires
+solve_one-last_division-n-end-requires t c = stands_head c.requires.1.entry.entry.stands
 
 pub solve_one-leaf_one-leaf-requires : goal.solve_one-leaf_one-leaf-requires
 solve_one-leaf_one-leaf-requires t c =
@@ -152,59 +154,48 @@ solve_one-loop-n-init t c =
 pub solve_one-rule_at_place-rule-requires : goal.solve_one-rule_at_place-rule-requires
 solve_one-rule_at_place-rule-requires t c =
     let e = c.requires.1 in
-    place_in e.entry (c.loop-n.invariant _ e) c.last_division-last.ensures c.loop-n-test.true
+    place_in e.entry (c.loop-n.invariant _ e) c.last_division-n-end.ensures c.loop-n-test.true
 
-pub solve_one-split_at_place-split-requires : goal.solve_one-split_at_place-split-requires
-solve_one-split_at_place-split-requires t c =
+pub solve_one-split_at_place-requires : goal.solve_one-split_at_place-requires
+solve_one-split_at_place-requires t c =
     let e = c.requires.1 in
     let less = c.loop-n-test.true in (
-      place_in e.entry (c.loop-n.invariant _ e) c.last_division-last.ensures less,
+      place_in e.entry (c.loop-n.invariant _ e) c.last_division-n-end.ensures less,
       stands-length e.entry.entry.stands,
     )
-
-pub solve_one-overflow_add-n : goal.solve_one-overflow_add-n
-solve_one-overflow_add-n t c =
-    let e = c.requires.1 in
-    omega (arith, c.loop-n-test.true, last_in e.entry c.last_division-last.ensures)
 
 pub solve_one-rule_one-y-requires : goal.solve_one-rule_one-y-requires
 solve_one-rule_one-y-requires t c =
     let e = c.requires.1 in
     let t = e.entry.entry.stands in
     let done = c.loop-n.invariant _ e in
-    let k = c.last_division-last.ensures in
+    let k = c.last_division-n-end.ensures in
     let less = c.loop-n-test.true in
     let is = c.rule_at_place-rule.ensures in
-    let split = c.split_at_place-split.ensures.1 _ _ t.in_bar_lem.prepared (division_at e.entry done k less) t.length_in in
-    let d = (split_told e.entry done k less is split).divides c.if-k-ne0.true in
+    let split = c.in-Some.ensures.1 _ _ t.in_bar_lem.prepared (division_at e.entry done k less) t.length_in in
+    let d = split_told e.entry done k less is (Some _) split in
     let asked = rule_asked e c.length-len.ensures refl d (rules_here e.entry done k less is) in
     (omega (arith, parts_shorter e.entry d), (c.requires.0, asked))
-
-pub solve_one-loop-n-preserved-then-k-ne0 : goal.solve_one-loop-n-preserved-then-k-ne0
-solve_one-loop-n-preserved-then-k-ne0 t c =
-    λ s e.
-    let t = e.entry.entry.stands in
-    let done = c.loop-n.invariant s e in
-    let k = c.last_division-last.ensures in
-    let less = c.loop-n-test.true in
-    let is = c.rule_at_place-rule.ensures in
-    let split = c.split_at_place-split.ensures.1 s _ t.in_bar_lem.prepared (division_at e.entry done k less) t.length_in in
-    let d = (split_told e.entry done k less is split).divides c.if-k-ne0.true in
-    rules_next e.entry done k less is
-    (c.rule_one-y.ensures s
-    (rule_asked e c.length-len.ensures refl d (rules_here e.entry done k less is)))
 
 pub solve_one-loop-n-preserved : goal.solve_one-loop-n-preserved
 solve_one-loop-n-preserved t c =
     λ s e.
     let t = e.entry.entry.stands in
     let done = c.loop-n.invariant s e in
-    let k = c.last_division-last.ensures in
+    let k = c.last_division-n-end.ensures in
     let less = c.loop-n-test.true in
     let is = c.rule_at_place-rule.ensures in
-    let split = c.split_at_place-split.ensures.1 s _ t.in_bar_lem.prepared (division_at e.entry done k less) t.length_in in
-    rules_next e.entry done k less is
-    (ruled_idle s _ _ _ (rules_here e.entry done k less is) ((split_told e.entry done k less is split).idle c.if-k-ne0.false))
+    let place = division_at e.entry done k less in
+    let here = rules_here e.entry done k less is in
+    rules_next e.entry done k less is (elim c.match-split_at_place.branch [
+      | solve_one-in-Some w ↦
+          let d = split_told e.entry done k less is (Some _) (w.in-Some.ensures.1 s _ t.in_bar_lem.prepared place t.length_in) in
+          let met = w.rule_one-y.ensures s (rule_asked e c.length-len.ensures refl d here) in
+          rw (w.rows-is, w.zero-is, w.one-is) met
+      | solve_one-in_default w ↦
+          let idle = split_told e.entry done k less is None (w.in_default.ensures.1 s _ t.in_bar_lem.prepared place t.length_in) in
+          rw (w.rows-is, w.zero-is, w.one-is) (ruled_idle s _ _ _ here idle)
+    ])
 
 pub solve_one-overflow_add-bar : goal.solve_one-overflow_add-bar
 solve_one-overflow_add-bar t c =
@@ -219,11 +210,11 @@ solve_one-store-requires t c =
 pub solve_one-shape_of-rows : goal.solve_one-shape_of-rows
 solve_one-shape_of-rows t c =
     let e = c.requires.1 in
-    let row = rules_end e.entry (c.loop-n.invariant _ e) c.last_division-last.ensures c.loop-n-test.false in
+    let row = rules_end e.entry (c.loop-n.invariant _ e) c.last_division-n-end.ensures c.loop-n-test.false in
     (solve_stored e.entry row c.store.ensures).sound.size ∙ sym e.entry.entry.sound.size
 
 pub solve_one-returns : goal.solve_one-returns
 solve_one-returns t c =
     λ s e.
-    let row = rules_end e.entry (c.loop-n.invariant s e) c.last_division-last.ensures c.loop-n-test.false in
+    let row = rules_end e.entry (c.loop-n.invariant s e) c.last_division-n-end.ensures c.loop-n-test.false in
     solve_stored e.entry row c.store.ensures

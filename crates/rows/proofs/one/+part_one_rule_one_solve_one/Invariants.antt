@@ -1,5 +1,4 @@
 use Prim.Native.Nat.{◌+◌, ◌*◌}
-use Prim.Native.Nat.{ℕ, ◌-◌}
 use Rattle.plan.specs.Plan.{length_cell}
 use Rattle.sheet.specs.Sheet.{Sheet}
 use Rattle.rows.specs.SolveLaws.{Done}
@@ -19,6 +18,3 @@ abbrev pub invariant-solve_one-loop-n : goal.invariant-solve_one-loop-n
 invariant-solve_one-loop-n l =
     (s : Sheet) (e : OneEntry s l.plan l.units l.initial.rows l.bar l.q l.l l.left l.from l.at)
     → Done e.entry l.rows l.n (pair_row (record { zero = l.zero; one = l.one }))
-
-abbrev pub decreases-solve_one-loop-n : goal.decreases-solve_one-loop-n
-decreases-solve_one-loop-n l = l.last - l.n

@@ -34,6 +34,6 @@ pub returns : goal.returns
 returns c =
     let way = c.way in
     let way2 = c.way-2 in
-    let least = c.least-a in
+    let least = c.min-a in
     let way3 = c.way-3 in
     way_told c.requires.1 way.ensures way2.ensures way3.ensures least.ensures

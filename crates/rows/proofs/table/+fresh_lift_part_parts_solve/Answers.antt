@@ -4,6 +4,7 @@
 -- leaf and of the first r rules (`Ruled`). In both the table is sound, for every sheet that stands behind the tables. The needs of each
 -- member are met in a file of its own. Assumes nothing.
 use Prim.Native.Nat.{ℕ, ◌<◌}
+use Rattle.std.specs.declared.option.Option.TheVariants.{Some, None}
 use native.Mathlib.Omega.{arith}
 use Rattle.rows.specs.OneCallLaws.{fresh_asked, fresh_one, fresh_row}
 use mathlib.Core.Path.{subst, refl, sym, ◌∙◌}
@@ -13,7 +14,8 @@ use Rattle.rows.specs.TurnLaws.{row_low, ruled_low, ruled_none, ruled_idle, rule
 use Rattle.rows.specs.IdleLaws.{Idle, taken_skip}
 use Rattle.rows.specs.CallLaws.{lift_slot, lift_solve, lift_more, leaf_asked, dot_asked, part_empty, lift_entry, lift_none, lift_all, moved_none, moved_more, leaf_entry, leaf_told}
 use Rattle.rows.specs.PartLaws.{rule_below, parts-length, parts_eight, parts_begin, parts_all, turn_near, turn_asked, turn_part, turn_more, parted_low}
-use Rattle.rows.specs.SolveLaws.{last_in, place_in, division_at, rule_below as rule_within, split_told, rules_begin, rules_here, rules_next, rules_end, parts_entry, parts_shorter}
+use Rattle.rows.specs.SolveLaws.{place_in, division_at, rule_below as rule_within, split_told, rules_begin, rules_here, rules_next, rules_end, parts_entry, parts_shorter}
+use Rattle.rows.proofs.table.+fresh_lift_part_parts_solve.Goals.{solve-in-Some, solve-in_default}
 use Rattle.rows.proofs.table.+fresh_lift_part_parts_solve.Goals as goal
 
 -- ---- fresh
@@ -149,7 +151,7 @@ part-returns-then-from-to t c =
 pub part-loop-c-init : goal.part-loop-c-init
 part-loop-c-init t c =
     let if1 = c.if-from-to in
-    (omega arith, λ s v h ez m ee. (m, lift_none h if1.false))
+    λ s v h ez m ee. (m, lift_none h if1.false)
 
 pub part-lift-w-requires : goal.part-lift-w-requires
 part-lift-w-requires t c =
@@ -159,13 +161,8 @@ part-lift-w-requires t c =
     let few : loop.c < 4 = omega (arith, c.loop-c-test.true, reached.ensures.most) in
     let s = c.requires.0 in
     let h = c.requires.1 in
-    let (moved, taken) = loop.invariant.1 s _ h refl (moved_none _) refl in
+    let (moved, taken) = loop.invariant s _ h refl (moved_none _) refl in
     (omega arith, (s, _, lift_entry h if1.false few refl moved taken))
-
-pub part-overflow_add-c : goal.part-overflow_add-c
-part-overflow_add-c t c =
-    let reached = c.reached-n in
-    omega (arith, c.loop-c-test.true, reached.ensures.most)
 
 pub part-loop-c-preserved : goal.part-loop-c-preserved
 part-loop-c-preserved t c =
@@ -174,18 +171,16 @@ part-loop-c-preserved t c =
     let loop = c.loop-c in
     let loop-test = c.loop-c-test in
     let lift = c.lift-w in
-    let few : loop.c < 4 = omega (arith, loop-test.true, reached.ensures.most) in (
-      omega (arith, loop-test.true),
-      λ s v h ez m ee.
-          let (moved, taken) = loop.invariant.1 s v h ez m ee in
-          (moved_more moved ee, lift.ensures s v (lift_entry h if1.false few ez moved taken)),
-    )
+    let few : loop.c < 4 = omega (arith, loop-test.true, reached.ensures.most) in
+    λ s v h ez m ee.
+    let (moved, taken) = loop.invariant s v h ez m ee in
+    (moved_more moved ee, lift.ensures s v (lift_entry h if1.false few ez moved taken))
 
 pub part-shape_of-rows : goal.part-shape_of-rows
 part-shape_of-rows t c =
     let s = c.requires.0 in
     let h = c.requires.1 in
-    (c.loop-c.invariant.1 s _ h refl (moved_none _) refl).1.sound.size ∙ sym h.sound.size
+    (c.loop-c.invariant s _ h refl (moved_none _) refl).1.sound.size ∙ sym h.sound.size
 
 pub part-returns : goal.part-returns
 part-returns t c =
@@ -193,8 +188,8 @@ part-returns t c =
     let reached = c.reached-n in
     let loop = c.loop-c in
     λ s h.
-    let taken = (loop.invariant.1 s _ h refl (moved_none _) refl).1 in
-    lift_all h if1.false reached.ensures (omega (arith, c.loop-c-test.false, loop.invariant.0)) taken
+    let taken = (loop.invariant s _ h refl (moved_none _) refl).1 in
+    lift_all h if1.false reached.ensures (omega (arith, c.loop-c-test.false)) taken
 
 -- ---- parts
 
@@ -205,12 +200,8 @@ parts-length-len-requires t c =
 
 pub parts-loop-j-init : goal.parts-loop-j-init
 parts-loop-j-init t c =
-    let only_at = c.only_at-v in (
-      omega arith,
-      c.requires.1.part_in,
-      omega arith,
-      λ s e. parts_begin e only_at.ensures,
-    )
+    let only_at = c.only_at-v in
+    (omega arith, λ s e. parts_begin e only_at.ensures)
 
 pub parts-child-q-requires : goal.parts-child-q-requires
 parts-child-q-requires t c =
@@ -222,14 +213,14 @@ parts-overflow_add-end t c =
     let length = c.length-len in
     let loop = c.loop-j in
     let e = c.requires.1 in
-    omega (arith, turn_near e length.ensures loop.invariant.0 c.loop-j-test.true loop.invariant.2 (loop.invariant.3 _ e))
+    omega (arith, turn_near e length.ensures loop.auto.j c.loop-j-test.true loop.invariant.0 (loop.invariant.1 _ e))
 
 pub parts-first_behind-to-requires : goal.parts-first_behind-to-requires
 parts-first_behind-to-requires t c =
     let length = c.length-len in
     let loop = c.loop-j in
     let e = c.requires.1 in
-    turn_asked e length.ensures loop.invariant.0 c.loop-j-test.true loop.invariant.2 (loop.invariant.3 _ e)
+    turn_asked e length.ensures loop.auto.j c.loop-j-test.true loop.invariant.0 (loop.invariant.1 _ e)
 
 pub parts-part-w-requires : goal.parts-part-w-requires
 parts-part-w-requires t c =
@@ -239,9 +230,9 @@ parts-part-w-requires t c =
     let child = c.child-q in
     let first_behind = c.first_behind-to in
     let e = c.requires.1 in
-    let d = loop.invariant.3 _ e in
+    let d = loop.invariant.1 _ e in
     let part =
-    turn_part e length.ensures loop.invariant.0 loop-test.true loop.invariant.2 d first_behind.ensures child.ensures in
+    turn_part e length.ensures loop.auto.j loop-test.true loop.invariant.0 d first_behind.ensures child.ensures in
     (omega arith, (c.requires.0, part))
 
 pub parts-loop-j-preserved : goal.parts-loop-j-preserved
@@ -254,25 +245,23 @@ parts-loop-j-preserved t c =
     let part = c.part-w in
     let i = loop.invariant in (
       omega (arith, i.0),
-      omega (arith, loop-test.true),
-      omega (arith, i.2),
       λ s e.
           let told =
-          turn_part e length.ensures i.0 loop-test.true i.2 (i.3 s e) first_behind.ensures child.ensures in
-          turn_more e length.ensures i.0 loop-test.true i.2 (i.3 s e) first_behind.ensures child.ensures
+          turn_part e length.ensures loop.auto.j loop-test.true i.0 (i.1 s e) first_behind.ensures child.ensures in
+          turn_more e length.ensures loop.auto.j loop-test.true i.0 (i.1 s e) first_behind.ensures child.ensures
           (part.ensures s told),
     )
 
 pub parts-shape_of-rows : goal.parts-shape_of-rows
 parts-shape_of-rows t c =
     let e = c.requires.1 in
-    (c.loop-j.invariant.3 _ e).sound.size ∙ sym e.sound.size
+    (c.loop-j.invariant.1 _ e).sound.size ∙ sym e.sound.size
 
 pub parts-returns : goal.parts-returns
 parts-returns t c =
     let loop = c.loop-j in
     let loop-test = c.loop-j-test in
-    λ s e. parts_all e (omega (arith, loop-test.false, loop.invariant.0)) (loop.invariant.3 s e)
+    λ s e. parts_all e (omega (arith, loop-test.false, loop.auto.j)) (loop.invariant.1 s e)
 
 -- ---- solve
 
@@ -281,8 +270,8 @@ solve-length-requires t c =
     let e = c.requires.1 in
     (stands-length e.entry.stands, (c.requires.0, e.entry.stands.in_bar_lem.prepared))
 
-pub solve-last_division-last-requires : goal.solve-last_division-last-requires
-solve-last_division-last-requires t c = stands_head c.requires.1.entry.stands
+pub solve-last_division-n-end-requires : goal.solve-last_division-n-end-requires
+solve-last_division-n-end-requires t c = stands_head c.requires.1.entry.stands
 
 pub solve-leaf_row-best-requires : goal.solve-leaf_row-best-requires
 solve-leaf_row-best-requires t c =
@@ -302,35 +291,30 @@ solve-loop-n-init t c =
 pub solve-rule_at_place-rule-requires : goal.solve-rule_at_place-rule-requires
 solve-rule_at_place-rule-requires t c =
     let e = c.requires.1 in
-    place_in e (c.loop-n.invariant _ e) c.last_division-last.ensures c.loop-n-test.true
+    place_in e (c.loop-n.invariant _ e) c.last_division-n-end.ensures c.loop-n-test.true
 
-pub solve-split_at_place-split-requires : goal.solve-split_at_place-split-requires
-solve-split_at_place-split-requires t c =
+pub solve-split_at_place-requires : goal.solve-split_at_place-requires
+solve-split_at_place-requires t c =
     let e = c.requires.1 in
     let less = c.loop-n-test.true in
-    (place_in e (c.loop-n.invariant _ e) c.last_division-last.ensures less, stands-length e.entry.stands)
-
-pub solve-overflow_add-n : goal.solve-overflow_add-n
-solve-overflow_add-n t c =
-    let e = c.requires.1 in
-    omega (arith, c.loop-n-test.true, last_in e c.last_division-last.ensures)
+    (place_in e (c.loop-n.invariant _ e) c.last_division-n-end.ensures less, stands-length e.entry.stands)
 
 pub solve-parts-v-requires : goal.solve-parts-v-requires
 solve-parts-v-requires t c =
     let e = c.requires.1 in
     let t = e.entry.stands in
     let done = c.loop-n.invariant _ e in
-    let k = c.last_division-last.ensures in
+    let k = c.last_division-n-end.ensures in
     let less = c.loop-n-test.true in
-    let split = c.split_at_place-split.ensures.1 _ _ t.in_bar_lem.prepared (division_at e done k less) t.length_in in
-    let d = (split_told e done k less c.rule_at_place-rule.ensures split).divides c.if-k-ne0.true in
+    let split = c.in-Some.ensures.1 _ _ t.in_bar_lem.prepared (division_at e done k less) t.length_in in
+    let d = split_told e done k less c.rule_at_place-rule.ensures (Some _) split in
     (omega (arith, parts_shorter e d), (c.requires.0, parts_entry e d done.ruled.sound))
 
 pub solve-cost-requires : goal.solve-cost-requires
 solve-cost-requires t c =
     let e = c.requires.1 in
     let less = c.loop-n-test.true in (
-      rule_within e (c.loop-n.invariant _ e) c.last_division-last.ensures less c.rule_at_place-rule.ensures,
+      rule_within e (c.loop-n.invariant _ e) c.last_division-n-end.ensures less c.rule_at_place-rule.ensures,
       (c.requires.0, e.entry.stands.in_bar_lem.prepared),
     )
 
@@ -339,42 +323,36 @@ solve-relax_rule-y-requires t c =
     let e = c.requires.1 in
     let t = e.entry.stands in
     let done = c.loop-n.invariant _ e in
-    let k = c.last_division-last.ensures in
+    let k = c.last_division-n-end.ensures in
     let less = c.loop-n-test.true in
     let is = c.rule_at_place-rule.ensures in
-    let split = c.split_at_place-split.ensures.1 _ _ t.in_bar_lem.prepared (division_at e done k less) t.length_in in
-    let d = (split_told e done k less is split).divides c.if-k-ne0.true in (
+    let split = c.in-Some.ensures.1 _ _ t.in_bar_lem.prepared (division_at e done k less) t.length_in in
+    let d = split_told e done k less is (Some _) split in (
       omega (arith, c.cost.ensures.0),
       omega (arith, rule_within e done k less is),
       parted_low d.rule (c.parts-v.ensures _ (parts_entry e d done.ruled.sound)),
     )
-
-pub solve-loop-n-preserved-then-k-ne0 : goal.solve-loop-n-preserved-then-k-ne0
-solve-loop-n-preserved-then-k-ne0 t c =
-    λ s e.
-    let t = e.entry.stands in
-    let done = c.loop-n.invariant s e in
-    let k = c.last_division-last.ensures in
-    let less = c.loop-n-test.true in
-    let is = c.rule_at_place-rule.ensures in
-    let split = c.split_at_place-split.ensures.1 s _ t.in_bar_lem.prepared (division_at e done k less) t.length_in in
-    let d = (split_told e done k less is split).divides c.if-k-ne0.true in
-    rules_next e done k less is
-    (ruled_more s _ _ _ (rules_here e done k less is) t.in_bar_lem.prepared.good d e.inhabited
-    (c.cost.ensures.1 s t.in_bar_lem.prepared) (c.parts-v.ensures s (parts_entry e d done.ruled.sound))
-    c.relax_rule-y.ensures)
 
 pub solve-loop-n-preserved : goal.solve-loop-n-preserved
 solve-loop-n-preserved t c =
     λ s e.
     let t = e.entry.stands in
     let done = c.loop-n.invariant s e in
-    let k = c.last_division-last.ensures in
+    let k = c.last_division-n-end.ensures in
     let less = c.loop-n-test.true in
     let is = c.rule_at_place-rule.ensures in
-    let split = c.split_at_place-split.ensures.1 s _ t.in_bar_lem.prepared (division_at e done k less) t.length_in in
-    rules_next e done k less is
-    (ruled_idle s _ _ _ (rules_here e done k less is) ((split_told e done k less is split).idle c.if-k-ne0.false))
+    let place = division_at e done k less in
+    let here = rules_here e done k less is in
+    rules_next e done k less is (elim c.match-split_at_place.branch [
+      | solve-in-Some w ↦
+          let d = split_told e done k less is (Some _) (w.in-Some.ensures.1 s _ t.in_bar_lem.prepared place t.length_in) in
+          let met = w.parts-v.ensures s (parts_entry e d done.ruled.sound) in
+          rw (w.rows-is, w.best-is)
+          (ruled_more s _ _ _ here t.in_bar_lem.prepared.good d e.inhabited (w.cost.ensures.1 s t.in_bar_lem.prepared) met w.relax_rule-y.ensures)
+      | solve-in_default w ↦
+          let idle = split_told e done k less is None (w.in_default.ensures.1 s _ t.in_bar_lem.prepared place t.length_in) in
+          rw (w.rows-is, w.best-is) (ruled_idle s _ _ _ here idle)
+    ])
 
 pub solve-overflow_add-bar : goal.solve-overflow_add-bar
 solve-overflow_add-bar t c =
@@ -389,11 +367,11 @@ solve-store-requires t c =
 pub solve-shape_of-rows : goal.solve-shape_of-rows
 solve-shape_of-rows t c =
     let e = c.requires.1 in
-    let row = rules_end e (c.loop-n.invariant _ e) c.last_division-last.ensures c.loop-n-test.false in
+    let row = rules_end e (c.loop-n.invariant _ e) c.last_division-n-end.ensures c.loop-n-test.false in
     (solve_stored e row c.store.ensures).sound.size ∙ sym e.entry.sound.size
 
 pub solve-returns : goal.solve-returns
 solve-returns t c =
     λ s e.
-    let row = rules_end e (c.loop-n.invariant s e) c.last_division-last.ensures c.loop-n-test.false in
+    let row = rules_end e (c.loop-n.invariant s e) c.last_division-n-end.ensures c.loop-n-test.false in
     solve_stored e row c.store.ensures

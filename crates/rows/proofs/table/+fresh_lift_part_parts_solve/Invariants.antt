@@ -1,4 +1,4 @@
-use Prim.Native.Nat.{ℕ, ◌-◌, ◌≤◌, ◌+◌, ◌*◌}
+use Prim.Native.Nat.{ℕ, ◌-◌, ◌+◌, ◌*◌}
 use mathlib.Core.Path.{◌≡◌}
 use lib.ListN.{get_or}
 use mathlib.Core.List.{List}
@@ -28,24 +28,14 @@ decreases-solve l = 5 * length_cell l.plan.now l.l
 
 abbrev pub invariant-part-loop-c : goal.invariant-part-loop-c
 invariant-part-loop-c l =
-    (l.c ≤ l.n)
-    × ((s : Sheet) (v : List ℕ) → PartEntry s l.plan l.units l.initial.rows l.bar l.q l.l l.left l.from l.to v → l.zero ≡ get_or v 0 0 → MovedTo v 0 l.initial.a l.initial.b l.initial.d
-    → l.e ≡ get_or v 3 0 → MovedTo v l.c l.a l.b l.d × Taken s l.rows (item_at s l.q l.l l.left) v l.c l.o)
-
-abbrev pub decreases-part-loop-c : goal.decreases-part-loop-c
-decreases-part-loop-c l = l.n - l.c
+    (s : Sheet) (v : List ℕ) → PartEntry s l.plan l.units l.initial.rows l.bar l.q l.l l.left l.from l.to v → l.zero ≡ get_or v 0 0 → MovedTo v 0 l.initial.a l.initial.b l.initial.d
+    → l.e ≡ get_or v 3 0 → MovedTo v l.c l.a l.b l.d × Taken s l.rows (item_at s l.q l.l l.left) v l.c l.o
 
 abbrev pub invariant-parts-loop-j : goal.invariant-parts-loop-j
 invariant-parts-loop-j l =
-    (l.i ≤ l.j) × (l.j ≤ l.k) × (l.lo + l.i * l.len.0 ≡ l.initial.lo + l.j * l.len.0) × ((s : Sheet) (e : PartsEntry s l.plan l.units l.initial.rows l.bar l.r l.i l.k l.l (units l.initial.lo) l.from l.c)
+    (l.lo + l.i * l.len.0 ≡ l.initial.lo + l.j * l.len.0) × ((s : Sheet) (e : PartsEntry s l.plan l.units l.initial.rows l.bar l.r l.i l.k l.l (units l.initial.lo) l.from l.c)
     → PartsDone s l.rows (kids_of e) l.l (units l.initial.lo) l.c (l.j - l.i) l.lo l.at l.v)
-
-abbrev pub decreases-parts-loop-j : goal.decreases-parts-loop-j
-decreases-parts-loop-j l = l.k - l.j
 
 abbrev pub invariant-solve-loop-n : goal.invariant-solve-loop-n
 invariant-solve-loop-n l =
     (s : Sheet) (e : SolveEntry s l.plan l.units l.initial.rows l.bar l.q l.l l.left l.from l.c l.at) → Done e l.rows l.n l.best
-
-abbrev pub decreases-solve-loop-n : goal.decreases-solve-loop-n
-decreases-solve-loop-n l = l.last - l.n

@@ -17,5 +17,5 @@ overflow_add-y-4 c = omega (arith, c.requires.0 3, c.requires.1 3)
 
 pub returns : goal.returns
 returns c =
-    lowest_four _ _ _ _ _ _ c.least-a.ensures c.least-b.ensures
-    c.least-c.ensures c.least.ensures
+    lowest_four _ _ _ _ _ _ c.min-a.ensures c.min-b.ensures
+    c.min-c.ensures c.min.ensures

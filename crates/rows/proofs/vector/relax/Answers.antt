@@ -1,4 +1,4 @@
--- `relax` meets its contract: no sum passes twice NONE, and `least` gives each of the four numbers. Assumes nothing.
+-- `relax` meets its contract: no sum passes twice NONE, and `min` gives each of the four numbers. Assumes nothing.
 use native.Mathlib.Omega.{arith}
 use Rattle.rows.specs.VectorLaws.{four}
 use Rattle.rows.proofs.vector.relax.Goals as goal
@@ -17,4 +17,4 @@ overflow_add-a-4 c = omega (arith, c.requires.1 3)
 
 pub returns : goal.returns
 returns c =
-    four c.least.ensures c.least-2.ensures c.least-3.ensures c.least-4.ensures
+    four c.min.ensures c.min-2.ensures c.min-3.ensures c.min-4.ensures

@@ -1,4 +1,4 @@
--- `relax_rule` meets its contract: 64 times twice NONE, and a rule below 64, fit; `least` gives each of the four numbers. Assumes nothing.
+-- `relax_rule` meets its contract: 64 times twice NONE, and a rule below 64, fit; `min` gives each of the four numbers. Assumes nothing.
 use native.Mathlib.Omega.{arith}
 use Rattle.rows.specs.VectorLaws.{four}
 use Rattle.rows.proofs.vector.relax_rule.Goals as goal
@@ -41,6 +41,4 @@ overflow_add-a-8 c = omega (arith, c.requires.2 3)
 
 pub returns : goal.returns
 returns c =
-    let least = c.least in
-    let least2 = c.least-2 in
-    four least.ensures least2.ensures c.least-3.ensures c.least-4.ensures
+    four c.min.ensures c.min-2.ensures c.min-3.ensures c.min-4.ensures

@@ -2,11 +2,10 @@
 -- for any sheet and any parts that are to be written from its first turn on, the first `j` of them are written (`PartsUpto`).
 -- Assumes nothing.
 use borrow.Author.Rules.{rules}
-use Prim.Native.Nat.{ℕ}
 use mathlib.Core.Path.{refl}
 use native.Mathlib.Omega.{arith}
 use Rattle.score.proofs.TreeSteps.{rule_left, rule_small, leaf_here, division_here, leaf_entry, leaf_done}
-use Rattle.score.proofs.PartsSteps.{none_left, one_left, parts_none, part_entry, part_done, two_parts, part_shorter, parts_entry, division_done}
+use Rattle.score.proofs.PartsSteps.{parts_none, part_entry, part_done, two_parts, part_shorter, parts_entry, division_done}
 use Rattle.score.proofs.tree.+write_tree.Goals as goal
 
 pub bounds-list-at : goal.bounds-list-at
@@ -36,46 +35,31 @@ nonzero_div-len t c =
     search rules
 
 pub loop-j-init : goal.loop-j-init
-loop-j-init t c = (search rules, none_left _ _, refl, λ s rest ks e g. parts_none g)
+loop-j-init t c = (refl, λ s rest ks e g. parts_none g)
 
-pub write_tree-further-requires : goal.write_tree-further-requires
-write_tree-further-requires t c =
+pub write_tree-next-requires : goal.write_tree-next-requires
+write_tree-next-requires t c =
     let loop-test = c.loop-j-test in
     let loop = c.loop-j in
     let rule_at_lem = c.rule_at-rule in
     let h = c.requires.3 in
     let d = division_here h _ _ _ _ rule_at_lem.ensures c.in-Division.is in
     let g = parts_entry h d.1 d.2 in
-    let u = loop.invariant.3 _ _ d.0 d.1 g in (
+    let u = loop.invariant.1 _ _ d.0 d.1 g in (
       omega (arith, part_shorter h d.1 d.2),
-      (c.requires.0, _, _, part_entry g loop.j (omega (arith, loop-test.true, d.1)) loop.left loop.invariant.1 _ _ u),
+      (c.requires.0, _, _, part_entry g loop.j (omega (arith, loop-test.true, d.1)) _ refl _ _ u),
     )
-
-pub overflow_add-left : goal.overflow_add-left
-overflow_add-left t c =
-    let loop-test = c.loop-j-test in
-    let loop = c.loop-j in
-    let rule_at_lem = c.rule_at-rule in
-    let h = c.requires.3 in
-    let d = division_here h _ _ _ _ rule_at_lem.ensures c.in-Division.is in
-    let g = parts_entry h d.1 d.2 in
-    let u = loop.invariant.3 _ _ d.0 d.1 g in
-    let b = (part_entry g loop.j (omega (arith, loop-test.true, d.1)) loop.left loop.invariant.1 _ _ u).in_bar_lem in
-    let y = h.onsets.units.good.sixty_four in
-    record { fits = omega arith }
 
 pub loop-j-preserved : goal.loop-j-preserved
 loop-j-preserved t c =
-    let write-tree = c.write_tree-further in
+    let write-tree = c.write_tree-next in
     let loop-test = c.loop-j-test in
     let loop = c.loop-j in
     let t = loop-test.true in (
       search rules,
-      one_left _ _ _ _ loop.invariant.1,
-      search rules,
-      λ s rest ks e g. let u = loop.invariant.3 s rest ks e g in part_done g
-          loop.j (omega (arith, t, e)) loop.left loop.invariant.1 _ _ u _ _
-          (write-tree.ensures s _ _ (part_entry g loop.j (omega (arith, t, e)) loop.left loop.invariant.1 _ _ u)),
+      λ s rest ks e g. let u = loop.invariant.1 s rest ks e g in part_done g
+          loop.j (omega (arith, t, e)) _ refl _ _ u _ _
+          (write-tree.ensures s _ _ (part_entry g loop.j (omega (arith, t, e)) _ refl _ _ u)),
     )
 
 pub returns-in-Leaf : goal.returns-in-Leaf
@@ -86,7 +70,7 @@ returns-in-Leaf t c =
     (write-leaf.ensures s (leaf_entry h (leaf_here h _ _ _ _ rule_at_lem.ensures c.in-Leaf.is)))
 
 pub shape_of-score-after-loop-j : goal.shape_of-score-after-loop-j
-shape_of-score-after-loop-j t c = c.loop-j.invariant.2
+shape_of-score-after-loop-j t c = c.loop-j.invariant.0
 
 pub returns-after-loop-j : goal.returns-after-loop-j
 returns-after-loop-j t c =
@@ -94,4 +78,4 @@ returns-after-loop-j t c =
     let rule_at_lem = c.rule_at-rule in
     λ s q rest h.
     let d = division_here h _ _ _ _ rule_at_lem.ensures c.in-Division.is in
-    division_done h d.1 d.2 loop.j _ _ (loop.invariant.3 _ _ d.0 d.1 (parts_entry h d.1 d.2)) (omega arith)
+    division_done h d.1 d.2 loop.j _ _ (loop.invariant.1 _ _ d.0 d.1 (parts_entry h d.1 d.2)) (omega arith)

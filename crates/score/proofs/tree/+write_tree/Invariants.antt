@@ -1,5 +1,4 @@
-use borrow.Author.Rules.{rules}
-use Prim.Native.Nat.{ℕ, ◌+◌, ◌-◌, ◌*◌, ◌≤◌}
+use Prim.Native.Nat.{ℕ}
 use mathlib.Core.Path.{◌≡◌}
 use mathlib.Core.List.{List}
 use lib.ListN.{length}
@@ -13,9 +12,6 @@ decreases-write_tree l = l.over.len.0
 
 abbrev pub invariant-loop-j : goal.invariant-loop-j
 invariant-loop-j l =
-    (l.j ≤ l.k) × (l.left ≡ l.initial.left + l.j * l.len) × (length l.score ≡ length l.initial.score) ×
-    ((s : Sheet) (rest : List Item) (ks : List ℕ) → length ks ≡ l.k → PartsPre s rest ks l.rules l.units l.pitches l.list l.initial.left l.len l.initial.next l.initial.score →
-    PartsUpto s rest ks l.list l.initial.left l.len l.initial.next l.initial.score l.j l.next l.score)
-
-abbrev pub decreases-loop-j : goal.decreases-loop-j
-decreases-loop-j l = l.k - l.j
+    (length l.score ≡ length l.initial.score) ×
+    ((s : Sheet) (rest : List Item) (ks : List ℕ) → length ks ≡ l.k → PartsPre s rest ks l.rules l.units l.pitches l.list l.over.left.0 l.len l.initial.next l.initial.score →
+    PartsUpto s rest ks l.list l.over.left.0 l.len l.initial.next l.initial.score l.j l.next l.score)

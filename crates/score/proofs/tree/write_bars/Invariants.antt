@@ -1,7 +1,5 @@
 -- `write_bars` meets its contract. The loop's invariant: of any sheet that the tables hold, the first `b` bars are written (`BarsUpto`).
--- The measure is the number of bars left. Assumes nothing.
-use borrow.Author.Rules.{rules}
-use Prim.Native.Nat.{◌-◌, ◌≤◌}
+-- Assumes nothing.
 use mathlib.Core.Path.{◌≡◌}
 use lib.ListN.{length}
 use Rattle.sheet.specs.Sheet.{Sheet}
@@ -11,8 +9,5 @@ use Rattle.score.proofs.tree.write_bars.Given as goal
 
 abbrev pub invariant-loop-b : goal.invariant-loop-b
 invariant-loop-b l =
-    (l.b ≤ l.n) × (length l.score ≡ length l.initial.score) ×
+    (length l.score ≡ length l.initial.score) ×
     ((s : Sheet) → BarsPre s l.rules l.units l.pitches l.list l.bars l.to l.initial.score → BarsUpto s l.list l.to l.initial.score l.b l.next l.score)
-
-abbrev pub decreases-loop-b : goal.decreases-loop-b
-decreases-loop-b l = l.n - l.b

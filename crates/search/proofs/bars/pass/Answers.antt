@@ -11,19 +11,19 @@ use Rattle.search.proofs.bars.pass.Goals as goal
 rooted : (c : After-root_row-y) (s : Sheet) → (let a = c.args in
     PassPre s a.plan.now a.units.now a.rows.now a.bar a.start a.v) → (RootsTo s c.args.roots.now c.args.bar.number 0)
     → Rooted s c.root_row-y.new.rows c.args.bar.number c.loop-c.c c.root_row-y.result
-rooted c s h are = c.root_row-y.ensures s (pass_again h (c.loop-c.invariant.2 s h are).taken.sound)
+rooted c s h are = c.root_row-y.ensures s (pass_again h (c.loop-c.invariant.1 s h are).taken.sound)
 
 pub overflow_mul-at : goal.overflow_mul-at
 overflow_mul-at c =
     record { fits = omega (arith, pass_few c.requires.1) }
 
 pub loop-c-init : goal.loop-c-init
-loop-c-init c = (omega arith, refl, λ s h are. passing_none are h.sound)
+loop-c-init c = (refl, λ s h are. passing_none are h.sound)
 
 pub root_row-y-requires : goal.root_row-y-requires
 root_row-y-requires c =
     let h = c.requires.1 in
-    let so_far = c.loop-c.invariant.2 _ h c.requires.2 in
+    let so_far = c.loop-c.invariant.1 _ h c.requires.2 in
     (c.loop-c-test.true, (c.requires.0, pass_again h so_far.taken.sound))
 
 pub overflow_mul-c : goal.overflow_mul-c
@@ -38,7 +38,7 @@ pub store-requires : goal.store-requires
 store-requires c =
     let s = c.requires.0 in
     let h = c.requires.1 in
-    let so_far = c.loop-c.invariant.2 s h c.requires.2 in
+    let so_far = c.loop-c.invariant.1 s h c.requires.2 in
     let few = c.loop-c-test.true in
     let low = passing_row so_far few h.bar_in (rooted (goal.at.store-requires c).After-root_row-y s h c.requires.2) in
     (omega (arith, passing_room so_far few h.bar_in), omega arith, low)
@@ -55,13 +55,9 @@ pub relax-w-requires : goal.relax-w-requires
 relax-w-requires c =
     let s = c.requires.0 in
     let h = c.requires.1 in
-    let so_far = c.loop-c.invariant.2 s h c.requires.2 in
+    let so_far = c.loop-c.invariant.1 s h c.requires.2 in
     let low = passing_row so_far c.loop-c-test.true h.bar_in (rooted (goal.at.relax-w-requires c).After-root_row-y s h c.requires.2) in
     (pass_low h c.loop-c.c, totals_low c.root_row-y.result low c.totals.ensures)
-
-pub overflow_add-c : goal.overflow_add-c
-overflow_add-c c =
-    record { fits = omega (arith, c.loop-c-test.true) }
 
 -- one row more is stored
 pub loop-c-preserved : goal.loop-c-preserved
@@ -69,25 +65,24 @@ loop-c-preserved c =
     let loop = c.loop-c in
     let few = c.loop-c-test.true in
     let h = c.requires.1 in
-    let so_far = loop.invariant.2 _ h c.requires.2 in
+    let so_far = loop.invariant.1 _ h c.requires.2 in
     let same = passing_stored so_far few h.bar_in c.root_row-y.result c.store.ensures in (
-      omega (arith, few),
-      same ∙ loop.invariant.1,
+      same ∙ loop.invariant.0,
       λ s h are.
-          passing_more (loop.invariant.2 s h are) few h.bar_in (rooted (goal.at.loop-c-preserved c).After-root_row-y s h are) h.prepared.good h.before
-          c.totals.ensures c.relax-w.ensures c.store.ensures,
+          passing_more (loop.invariant.1 s h are) few h.bar_in (rooted (goal.at.loop-c-preserved c).After-root_row-y s h are)
+          h.prepared.good h.before c.totals.ensures c.relax-w.ensures c.store.ensures,
     )
 
 pub shape_of-rows : goal.shape_of-rows
 shape_of-rows c =
     let h = c.requires.1 in
-    (c.loop-c.invariant.2 _ h c.requires.2).taken.sound.size ∙ sym h.sound.size
+    (c.loop-c.invariant.1 _ h c.requires.2).taken.sound.size ∙ sym h.sound.size
 
 pub shape_of-roots : goal.shape_of-roots
-shape_of-roots c = c.loop-c.invariant.1
+shape_of-roots c = c.loop-c.invariant.0
 
 pub returns : goal.returns
 returns c =
     let loop = c.loop-c in
-    let all : loop.c ≡ 4 = omega (arith, c.loop-c-test.false, loop.invariant.0) in
-    λ s h are. passing_all all h.before (loop.invariant.2 s h are)
+    let all : loop.c ≡ 4 = omega (arith, c.loop-c-test.false) in
+    λ s h are. passing_all all h.before (loop.invariant.1 s h are)

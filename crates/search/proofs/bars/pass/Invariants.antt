@@ -3,7 +3,6 @@
 -- ---- places
 -- ---- where the row from carry state c is known
 -- ---- the needs
-use Prim.Native.Nat.{◌-◌, ◌≤◌}
 use mathlib.Core.Path.{◌≡◌}
 use lib.ListN.{length}
 use Rattle.sheet.specs.Sheet.{Sheet}
@@ -13,9 +12,6 @@ use Rattle.search.proofs.bars.pass.Given as goal
 
 abbrev pub invariant-loop-c : goal.invariant-loop-c
 invariant-loop-c l =
-    (l.c ≤ 4) × (length l.roots ≡ length l.initial.roots)
+    (length l.roots ≡ length l.initial.roots)
     × ((s : Sheet) → PassPre s l.plan l.units l.initial.rows l.bar l.start l.v → RootsTo s l.initial.roots l.bar.number 0
     → Passing s l.rows l.roots l.bar.number l.v l.c l.o)
-
-abbrev pub decreases-loop-c : goal.decreases-loop-c
-decreases-loop-c l = 4 - l.c

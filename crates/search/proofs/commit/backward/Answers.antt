@@ -75,7 +75,9 @@ loop-b-preserved c =
       omega (arith, loop.invariant.0),
       omega (arith, more),
       length-stored loop.vectors c.suffix_step-w.result (4 * (loop.b - 1)) room c.store-in-loop-b.ensures ∙ loop.invariant.2,
-      λ s e. backward_more e more loop.invariant.0 (loop.invariant.3 s e) (told (goal.at.loop-b-preserved c).After-suffix_step-w s e) c.store-in-loop-b.ensures,
+      λ s e.
+          backward_more e more loop.invariant.0 (loop.invariant.3 s e) (told (goal.at.loop-b-preserved c).After-suffix_step-w s e)
+          c.store-in-loop-b.ensures,
     )
 
 pub shape_of-vectors : goal.shape_of-vectors

@@ -15,6 +15,3 @@ abbrev pub invariant-loop-b : goal.invariant-loop-b
 invariant-loop-b l =
     (l.b ≤ l.end) × (l.from ≤ l.b) × (length l.vectors ≡ length l.initial.vectors)
     × ((s : Sheet) → BackwardPre s l.roots l.initial.vectors l.from l.end → Backward s l.vectors l.end l.b l.v)
-
-abbrev pub decreases-loop-b : goal.decreases-loop-b
-decreases-loop-b l = l.b

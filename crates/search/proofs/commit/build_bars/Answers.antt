@@ -23,7 +23,7 @@ carry-few : (c : After-enter-bar) → c.loop-b.carry < 4
 carry-few c =
     let loop = c.loop-b in
     let h = c.requires.1 in
-    bar_carry h (loop.invariant.2 _ h) loop.invariant.1 c.loop-b-test.true
+    bar_carry h (loop.invariant _ h) loop.auto.b c.loop-b-test.true
 
 entry : (c : After-load-v) (s : Sheet) → (let a = c.args in
     BarsBuildPre s a.plan.now a.units.now a.rows.now a.tree.now a.vectors.now a.roots.now a.start a.from
@@ -36,11 +36,11 @@ entry c s h =
     let loop = c.loop-b in
     let below = c.loop-b-test.true in
     let is-bar = c.enter-bar.ensures s (bar_enter h.committable.entry loop.b (omega (arith, below, h.committable.end_in))) in
-    bar_build h (loop.invariant.2 s h) loop.invariant.1 below c.load-y.ensures c.load-v.ensures is-bar
+    bar_build h (loop.invariant s h) loop.auto.b below c.load-y.ensures c.load-v.ensures is-bar
 
 pub loop-b-init : goal.loop-b-init
 loop-b-init c =
-    (c.requires.1.committable.rising, omega arith, λ s h. in_bars_none h)
+    λ s h. in_bars_none h
 
 pub enter-bar-requires : goal.enter-bar-requires
 enter-bar-requires c =
@@ -54,13 +54,15 @@ pub overflow_mul-carry : goal.overflow_mul-carry
 overflow_mul-carry c = record { fits = omega (arith, carry-few (goal.at.overflow_mul-carry c).After-enter-bar) }
 
 pub overflow_add-b : goal.overflow_add-b
-overflow_add-b c = record { fits = omega (arith, bar-few (goal.at.overflow_add-b c).After-enter-bar, carry-few (goal.at.overflow_add-b c).After-enter-bar) }
+overflow_add-b c =
+    let at = (goal.at.overflow_add-b c).After-enter-bar in
+    record { fits = omega (arith, bar-few at, carry-few at) }
 
 pub load-y-requires : goal.load-y-requires
 load-y-requires c =
     let loop = c.loop-b in
     let h = c.requires.1 in
-    root_room h (loop.invariant.2 _ h) loop.invariant.1 c.loop-b-test.true
+    root_room h (loop.invariant _ h) loop.auto.b c.loop-b-test.true
 
 pub overflow_cast-lo : goal.overflow_cast-lo
 overflow_cast-lo c = omega (arith, bar-few (goal.at.overflow_cast-lo c).After-enter-bar)
@@ -78,7 +80,7 @@ pub load-v-requires : goal.load-v-requires
 load-v-requires c =
     let loop = c.loop-b in
     let h = c.requires.1 in
-    vector_room h (loop.invariant.2 _ h) loop.invariant.1 c.loop-b-test.true
+    vector_room h (loop.invariant _ h) loop.auto.b c.loop-b-test.true
 
 pub build-built-requires : goal.build-built-requires
 build-built-requires c =
@@ -88,25 +90,22 @@ build-built-requires c =
 pub loop-b-preserved : goal.loop-b-preserved
 loop-b-preserved c =
     let loop = c.loop-b in
-    let below = c.loop-b-test.true in (
-      omega (arith, below),
-      omega (arith, loop.invariant.1),
-      λ s h. in_bars_more h (loop.invariant.2 s h) loop.invariant.1 below c.load-y.ensures c.load-v.ensures
-          {rows'' = c.build-built.new.rows} {then = c.build-built.new.tree}
-          (c.build-built.ensures s (entry (goal.at.loop-b-preserved c).After-load-v s h)),
-    )
+    let below = c.loop-b-test.true in
+    λ s h. in_bars_more h (loop.invariant s h) loop.auto.b below c.load-y.ensures c.load-v.ensures
+    {rows'' = c.build-built.new.rows} {then = c.build-built.new.tree}
+    (c.build-built.ensures s (entry (goal.at.loop-b-preserved c).After-load-v s h))
 
 pub shape_of-rows : goal.shape_of-rows
 shape_of-rows c =
     let h = c.requires.1 in
-    (c.loop-b.invariant.2 _ h).sound.size ∙ sym h.committable.entry.sound.size
+    (c.loop-b.invariant _ h).sound.size ∙ sym h.committable.entry.sound.size
 
 pub shape_of-tree : goal.shape_of-tree
 shape_of-tree c =
     let h = c.requires.1 in
-    ap length (c.loop-b.invariant.2 _ h).partway.written ∙ length-over_from _ _ _
+    ap length (c.loop-b.invariant _ h).partway.written ∙ length-over_from _ _ _
 
 pub returns : goal.returns
 returns c =
-    let all : c.loop-b.b ≡ c.args.end = omega (arith, c.loop-b-test.false, c.loop-b.invariant.0) in
-    λ s h. in_bars_all h (c.loop-b.invariant.2 s h) all
+    let all : c.loop-b.b ≡ c.args.end = omega (arith, c.loop-b-test.false, c.loop-b.auto.b-end, c.requires.1.committable.rising) in
+    λ s h. in_bars_all h (c.loop-b.invariant s h) all

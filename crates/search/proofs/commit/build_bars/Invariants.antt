@@ -4,7 +4,6 @@
 -- ---- where bar b is entered
 -- ---- where its row and the suffix costs behind it are loaded: it may be built
 -- ---- the needs
-use Prim.Native.Nat.{◌-◌, ◌≤◌}
 use Rattle.sheet.specs.Sheet.{Sheet}
 use Rattle.search.specs.Clauses.{BarsBuildPre}
 use Rattle.search.proofs.BarSteps.{InBars}
@@ -12,8 +11,5 @@ use Rattle.search.proofs.commit.build_bars.Given as goal
 
 abbrev pub invariant-loop-b : goal.invariant-loop-b
 invariant-loop-b l =
-    (l.b ≤ l.end) × (l.from ≤ l.b) × ((s : Sheet) → BarsBuildPre s l.plan l.units l.initial.rows l.initial.tree l.vectors l.roots l.start l.from l.end l.n
-    → InBars s l.rows l.initial.tree l.tree l.end l.b l.carry l.next)
-
-abbrev pub decreases-loop-b : goal.decreases-loop-b
-decreases-loop-b l = l.end - l.b
+    (s : Sheet) → BarsBuildPre s l.plan l.units l.initial.rows l.initial.tree l.vectors l.roots l.start l.from l.end l.n
+    → InBars s l.rows l.initial.tree l.tree l.end l.b l.carry l.next

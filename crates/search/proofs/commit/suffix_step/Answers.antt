@@ -67,4 +67,6 @@ dot-requires-4 c =
 -- the four are the vector
 pub returns : goal.returns
 returns c =
-    λ s e h. suffix_step_all h (zeroth (goal.at.returns c).After-dot s e h) (first (goal.at.returns c).After-dot-2 s e h) (second (goal.at.returns c).After-dot-3 s e h) (third (goal.at.returns c).After-dot-4 s e h)
+    λ s e h.
+    suffix_step_all h (zeroth (goal.at.returns c).After-dot s e h) (first (goal.at.returns c).After-dot-2 s e h)
+    (second (goal.at.returns c).After-dot-3 s e h) (third (goal.at.returns c).After-dot-4 s e h)

@@ -13,4 +13,4 @@ returns-then-i-l c b h =
 
 pub returns : goal.returns
 unfolding four
-returns c b h = λ j. c.two_at-high.ensures.1 b h j * 65536 + c.two_at-low.ensures.1 b h j
+returns c b h = rw (c.from.ensures, c.from-2.ensures) (λ j. c.two_at.ensures b h j * 65536 + c.two_at-2.ensures b h j)

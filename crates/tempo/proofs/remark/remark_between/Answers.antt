@@ -2,4 +2,4 @@
 use Rattle.tempo.proofs.remark.remark_between.Goals as goal
 
 pub returns : goal.returns
-returns c = simp (c.tempo_record-bar.ensures, c.tempo_between-tempo.ensures)
+returns c = simp (c.tempo_record.ensures, c.tempo_between.ensures)

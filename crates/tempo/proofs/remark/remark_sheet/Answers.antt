@@ -2,7 +2,8 @@
 -- Assumes nothing.
 use mathlib.Core.Path.{sym, ap, ◌∙◌}
 use native.Mathlib.Omega.{arith}
-use Rattle.tempo.specs.Tempo.{record_of, remark_with, remark_of}
+use lib.Ieee
+use Rattle.tempo.specs.Tempo.{in_range, record_of, remark_with}
 use Rattle.tempo.specs.TempoLaws.{record_inside, record_last}
 use Rattle.tempo.specs.Clauses.{lasts, lasting_is}
 use Rattle.tempo.proofs.remark.remark_sheet.Goals as goal
@@ -11,11 +12,11 @@ pub overflow_sub-last : goal.overflow_sub-last
 overflow_sub-last c = let (t, held) = c.requires in held.one
 
 pub returns-then-last-i : goal.returns-then-last-i
-unfolding remark_of
+unfolding in_range Ieee.of_bits
 returns-then-last-i c t held =
     let last = c.if-last-i.true in
     let one = held.one in
-    c.no_remark.ensures ∙ ap (remark_with 0 0) (sym (record_last _ t _ (omega (arith, last, one))))
+    ap remark_with (sym (record_last _ t _ (omega (arith, last, one))))
 
 -- the bar's own duration, and the next bar's
 pub lasting-own-requires : goal.lasting-own-requires
@@ -33,10 +34,9 @@ lasting-next-requires c =
     (omega (arith, before, most), lasts _ t _ held _ (omega (arith, before)))
 
 pub returns : goal.returns
-unfolding remark_of
 returns c t held =
     let before = c.if-last-i.false in
     let a1 = c.lasting-own.ensures ∙ lasting_is _ t _ held _ (omega (arith, before)) in
     let a2 = c.lasting-next.ensures ∙ lasting_is _ t _ held _ (omega (arith, before)) in
-    c.remark_between.ensures ∙ (λ i. remark_with 0 0 (record_of (a1 i) (a2 i)))
-    ∙ ap (remark_with 0 0) (sym (record_inside _ t _ (omega (arith, before))))
+    c.remark_between.ensures ∙ (λ i. remark_with (record_of (a1 i) (a2 i)))
+    ∙ ap remark_with (sym (record_inside _ t _ (omega (arith, before))))
