@@ -1,5 +1,6 @@
 -- What the functions on bar lines promise. The moments of bar lines stand at the front of 65 cells.
-use Rattle.std.specs.Prelude.{ℕ, ◌+◌, ◌-◌, ◌≤◌, ◌<◌, ◌≡◌, Bool, true, false, cond, List, [], ◌⊎◌, length, get_or, take, drop, eqb, Result, Ok, Err}
+use Rattle.std.specs.Prelude.{ℕ, ◌+◌, ◌-◌, ◌≤◌, ◌<◌, ◌≡◌, Bool, true, false, cond, List, [], ◌⊎◌, length, get_or, take, drop, eqb, Result}
+use Rattle.std.specs.Prelude.{Ok, Err}
 use Rattle.sheet.specs.Sheet.{Grammar, Timing, TimedSheet, no_playing, line_at, end_of, even_lines}
 use Rattle.sheet.specs.Outcome.{Outcome}
 use Rattle.sheet.specs.Reading.{Progress, in_taps, in_onsets, refusal}

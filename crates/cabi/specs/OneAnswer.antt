@@ -8,4 +8,9 @@ use Rattle.cabi.specs.Entries.{answer_cells, FindCells}
 pub one_answer : (text tree work : List ℕ) {t₁ t₂ w₁ w₂ c₁ c₂ : List ℕ} → FindCells text tree t₁ work w₁ c₁
     → FindCells text tree t₂ work w₂ c₂ → (c₁ ≡ c₂) × (t₁ ≡ t₂) × (w₁ ≡ w₂)
 one_answer text tree work f g =
-    let (a, t, w) = finding.one_answer text tree work f.finds g.finds in (f.numbers ∙ ap (λ r. answer_cells (outcome_of r)) a ∙ sym g.numbers, t, w)
+    let (a, t, w) = finding.one_answer text tree work f.finds g.finds in (
+      f.numbers ∙ ap (λ r. answer_cells (outcome_of r)) a
+          ∙ sym g.numbers,
+      t,
+      w,
+    )

@@ -81,8 +81,8 @@ fn refused_cells(e: Refused) -> [u64; 6]
     [e.refusal.number() as u64, e.line as u64, 0, 0, 0, 0]
 }
 
-// How the tempo moves from bar i, from 0, to the next: refusal number, line, kind (0 steady, 1 faster, 2 slower), the bar's duration and the
-// next bar's, and the percentage's bits. All 0 where no bar follows.
+// How the tempo moves from bar i, from 0, to the next: refusal number, line, kind (0 steady, 1 faster, 2 slower), the bar's duration and
+// the next bar's, and the percentage's bits. All 0 where no bar follows.
 #[unsafe(no_mangle)]
 pub extern "C" fn rhythm_tempo(text: &[u8], i: usize, answer: &mut [u64; 6])
     ensures { answer.new ≡ tempo_cells (remark_of (record_text text.now i)) }

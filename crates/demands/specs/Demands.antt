@@ -120,7 +120,8 @@ module _ (text : List ℕ) (s : Sheet) (a : Accepts text s) where
 
   -- ==== Demand 2. "Rule weight, distance, token kinds and score lines are those of the published definitions as document 01 fixes them"
   pub price_sound : (list : List ℕ) (r : Answer) → Prices text list r → answer_number r ≡ 0
-      → Priced s list (figures_in r).weight (figures_in r).distance × (outcome_of r ≡ priced_as s (length list) (figures_in r).weight (figures_in r).distance)
+      → Priced s list (figures_in r).weight (figures_in r).distance
+      × (outcome_of r ≡ priced_as s (length list) (figures_in r).weight (figures_in r).distance)
   price_sound list r h = price.zero_then_own text list r h s a
 
   pub write_sound : (list score score' : List ℕ) (r : Result ℕ Refused) → Writes text list score score' r → answer_number r ≡ 0

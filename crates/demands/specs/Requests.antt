@@ -1,40 +1,43 @@
 -- What requests (xiv), (ix), (iv), (v) and (vi) of document 02 add to the demands, in the requests' own words: theorems about `find`, about
 -- what the search is prepared with, and about `read`. A reader needs the page of the demands, and of the names below their definitions.
---   withMultiplier a s, slid a text    the sheet, the text, with the multiplier a in the place of its own (sheet/specs/Multiplier)
+--   with_multiplier a s, slid a text   the sheet, the text, with the multiplier a in the place of its own (sheet/specs/Multiplier)
 --   AlikeTexts t u                     the same lines but for a's field (sheet/specs/Multiplier)
 --   Call                               a call of `find` by whatever meets `Finds` (finding/specs/Calls), x.answer what it gives
 --   TreeOf s x, RoomFor s x            its text means s, and a tree is handed back; its slices have the lengths that s requires
---   foundBytes x                       the tree found
+--   found_bytes x                      the tree found
 --   Prepared s plan                    what `prepare` gives of the grammar of s (plan/specs/Plan)
---   ruleIn plan i, firstCell plan q    the rule at place i, and the first place of the rules with head q (plan/specs/Plan)
+--   rule_in plan i, first_cell plan q  the rule at place i, and the first place of the rules with head q (plan/specs/Plan)
 --   HeadGroup s q number a b           the places from a up to, but not, b hold every rule with head q, once each and no other: number i is
 --                                      the rule at place i (plan/specs/Heads)
---   badLine text                       the first bad line of a text, 0 for none (hextext/specs/Text)
---   lineRead text at, lineBytes        the line that starts at a place as one loop reads it (hextext/specs/Packed); the bytes of a text's
+--   bad_line text                      the first bad line of a text, 0 for none (hextext/specs/Text)
+--   line_read text at, line_bytes      the line that starts at a place as one loop reads it (hextext/specs/Packed); the bytes of a text's
 --                                      first line (hextext/specs/Text)
 --   LineHeld l b                       l holds the line b: its kind, its count, its first eight bytes where it has more, and its last
 --                                      eight (sheet/specs/Held)
 --   NearestUnit d t u                  no unit is nearer than u to the moment t of bars that last d, and none that is as near is later
 --                                      (sheet/specs/Nearest)
---   onsetLines, playingLine, tapsOf    the `4E` lines of some lines, in order; the `45` line; the moments of the `42` lines; and
---   timingBy l taps                    the bar lines that these tell (sheet/specs/OnsetLines)
+--   onset_lines, playing_line          the `4E` lines of some lines, in order; the `45` line
+--   taps_of, timing_by l taps          the moments of the `42` lines, and the bar lines that these tell (sheet/specs/OnsetLines)
 --   is_tapped l                        the duration of the `45` line l is 0 (sheet/specs/Reading)
---   timeAt text i, unit_at r i          the time of `4E` line i, from 0, and the unit that a reading has of onset i
---   barLineAt r i, NearestInBar r t u  bar line i of a reading; and that t is in a bar of it, and u the nearest to its share of that bar's
---                                      duration (sheet/specs/UnitsRead)
---   unit_of d t, unitIn timing t        the unit of a moment, by one duration and by bar lines; line_at timing i, end_of B timing, bar line i
---                                      and the last; evenLines B d; barOf u, the bar of a unit, from 0 (sheet/specs/Sheet)
---   refusal, inTaps, inOnsets          the refusal of the next line, 0 for none, where g, B and some taps have been read, or g, whether the
+--   time_at text i, unit_at r i        the time of `4E` line i, from 0, and the unit that a reading has of onset i
+--   bar_line_at r i                    bar line i of a reading
+--   NearestInBar r t u                 t is in a bar of the reading, and u the nearest to its share of that bar's duration
+--                                      (sheet/specs/UnitsRead)
+--   unit_of d t, unit_in timing t      the unit of a moment, by one duration and by bar lines; line_at timing i, end_of B timing,
+--                                      bar line i and the last; even_lines B d; bar_of u, the bar of a unit, from 0 (sheet/specs/Sheet)
+--   refusal, in_taps, in_onsets        the refusal of the next line, 0 for none, where g, B and some taps have been read, or g, whether the
 --                                      bars are tapped, the timing and the playing p, the last onset at `last` (sheet/specs/Reading)
 --   Twins t u                          the lines of u are those of t with the duration 0 and a tap on each bar line (sheet/specs/Twin)
-use Rattle.std.specs.Prelude.{ℕ, ◌+◌, ◌-◌, ◌*◌, ◌/◌, ◌≤◌, ◌<◌, ◌≡◌, refl, Bool, true, false, List, [], ◌⊎◌, ◌↔◌, length, get_or, drop, Result, Ok}
+use Rattle.std.specs.Prelude.{ℕ, ◌+◌, ◌-◌, ◌*◌, ◌/◌, ◌≤◌, ◌<◌, ◌≡◌, refl, Bool, true, false, List, [], ◌⊎◌, ◌↔◌, length, get_or, drop}
+use Rattle.std.specs.Prelude.{Result, Ok}
 use Rattle.std.proofs.Common.{sym, ap, ◌∙◌}
 use Rattle.hextext.specs.declared.line.Line.{Line}
 use Rattle.hextext.specs.Text.{bad_line, line_bytes, lines}
 use Rattle.hextext.specs.Packed.{line_read}
 use Rattle.sheet.specs.declared.table.Reading.{Reading}
 use Rattle.slices.specs.Every.{Every}
-use Rattle.sheet.specs.Sheet.{Onset, Grammar, Playing, Sheet, Timing, TimedSheet, bar_units, unit_of, line_at, end_of, unit_in, even_lines, bar_of}
+use Rattle.sheet.specs.Sheet.{Onset, Grammar, Playing, Sheet, Timing, TimedSheet, bar_units, unit_of, line_at, end_of, unit_in, even_lines}
+use Rattle.sheet.specs.Sheet.{bar_of}
 use Rattle.sheet.specs.declared.refusal.Refused.{Refused}
 use Rattle.sheet.specs.Outcome.{refused, accepted, number_in, line_in}
 use Rattle.sheet.specs.Refusal.{answer_number, answer_line, same_answer}
@@ -70,7 +73,8 @@ use Rattle.finding.specs.SlidingLaws as sliding
 -- are the same. With a = 0 one may be smaller (finding/specs/SlidingCases, `dominated_at_zero`).
 pub find_undominated : (s : Sheet) (x : Call) → TreeOf s x → 1 ≤ s.grammar.multiplier
     → (bs : List ℕ) (R D : ℕ) → Priced s bs R D
-    → R ≤ (figures_in x.answer).weight → D ≤ (figures_in x.answer).distance → (R ≡ (figures_in x.answer).weight) × (D ≡ (figures_in x.answer).distance)
+    → R ≤ (figures_in x.answer).weight → D ≤ (figures_in x.answer).distance
+    → (R ≡ (figures_in x.answer).weight) × (D ≡ (figures_in x.answer).distance)
 find_undominated = sliding.undominated
 
 -- "For two sheets alike except that a grows, when both have a tree, R doesn't rise and D doesn't fall": of sheets

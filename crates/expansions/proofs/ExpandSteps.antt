@@ -27,7 +27,8 @@ use Rattle.expansions.specs.RuleCells.{DivisionRule, division_rule}
 use Rattle.expansions.specs.Items.{first_at, item_of, LeafFits, LeafUnfit, AsLeaf, AsDivision, LeafMade, DivisionMade, Expands}
 
 module _ (s : Sheet) (q : ℕ) (over : Interval) (c r : ℕ) where
-  expand_by_lem : (ru : meaning.Rule) → rule_at s r ≡ some ru → (instance_of s).expand (item_of q over) c r ≡ expand_by s (item_of q over) c ru
+  expand_by_lem : (ru : meaning.Rule) → rule_at s r ≡ some ru
+      → (instance_of s).expand (item_of q over) c r ≡ expand_by s (item_of q over) c ru
   unfolding instance_of Option-elim
   expand_by_lem ru e = rw e
 

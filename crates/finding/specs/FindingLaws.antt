@@ -197,7 +197,8 @@ module _ (text : List ℕ) {tree treeAfter work workAfter : List ℕ} {answer : 
       numbered o e = f.number ∙ ap number_of (sheet_found text _ _ s a ∙ e)
 
       -- a slice that is shorter than required: neither
-      pub short_neither : (length work < work_cells s) ⊎ (length tree < tree_bytes s) → (answer_number answer ≡ 0 → ⊥) × (answer_number answer ≡ 11 → ⊥)
+      pub short_neither : (length work < work_cells s) ⊎ (length tree < tree_bytes s)
+          → (answer_number answer ≡ 0 → ⊥) × (answer_number answer ≡ 11 → ⊥)
       short_neither short = elim (dec_lt (length work) (work_cells s)) [
         | yes w ↦ let q = numbered _ (work_short s _ _ w) in (λ z. omega arith, λ z. omega arith)
         | no w ↦ elim short [

@@ -53,7 +53,8 @@ tie_lighter a = (price_own (with_multiplier a sheet_tie) (1 ∷ []) 1 1 0 (a * 1
 -- With a = 0 the tree found may be dominated: on this sheet it weighs 3 at distance 0, and a valid tree weighs 1 at the same distance.
 pub dominated_at_zero : (tree tree' work work' : List ℕ) (r : Answer) → 240 ≤ length work → 81 ≤ length tree
     → Finds (slid 0 bar_or_tie) tree tree' work work' r
-    → (answer_number r ≡ 0) × ((figures_in r).weight ≡ 3) × ((figures_in r).distance ≡ 0) × Accepts (slid 0 bar_or_tie) (with_multiplier 0 sheet_tie)
+    → (answer_number r ≡ 0) × ((figures_in r).weight ≡ 3) × ((figures_in r).distance ≡ 0)
+    × Accepts (slid 0 bar_or_tie) (with_multiplier 0 sheet_tie)
     × trees.Priced (with_multiplier 0 sheet_tie) (1 ∷ []) 1 0
 dominated_at_zero tree tree' work work' r w t f =
     let g = (slid_answered.1.1.1.1.0 tree tree' work work' r w t f).answer_is in (

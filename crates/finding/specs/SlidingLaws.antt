@@ -31,7 +31,8 @@ found-length s x t = omega (arith, length-take (figures_in x.answer).nodes x.tre
 -- are the same
 pub undominated : (s : Sheet) (x : Call) → TreeOf s x → 1 ≤ s.grammar.multiplier
     → (bs : List ℕ) (R D : ℕ) → trees.Priced s bs R D
-    → R ≤ (figures_in x.answer).weight → D ≤ (figures_in x.answer).distance → (R ≡ (figures_in x.answer).weight) × (D ≡ (figures_in x.answer).distance)
+    → R ≤ (figures_in x.answer).weight → D ≤ (figures_in x.answer).distance
+    → (R ≡ (figures_in x.answer).weight) × (D ≡ (figures_in x.answer).distance)
 undominated s x t one bs R D =
     none_dominates s (found_bytes x) bs (figures_in x.answer).weight (figures_in x.answer).distance R D one (found_first s x t).tree
 
@@ -42,7 +43,8 @@ module _ (s : Sheet) where
   pub slides : (a b : ℕ) (x y : Call) → a ≤ b → TreeOf (with_multiplier a s) x → TreeOf (with_multiplier b s) y
       → ((figures_in y.answer).weight ≤ (figures_in x.answer).weight) × ((figures_in x.answer).distance ≤ (figures_in y.answer).distance)
   slides a b x y h t u =
-      first_slides s a b (found_bytes x) (found_bytes y) (figures_in x.answer).weight (figures_in x.answer).distance (figures_in y.answer).weight (figures_in y.answer).distance h
+      first_slides s a b (found_bytes x) (found_bytes y) (figures_in x.answer).weight (figures_in x.answer).distance
+      (figures_in y.answer).weight (figures_in y.answer).distance h
       (found_first (with_multiplier a s) x t) (found_first (with_multiplier b s) y u)
 
   -- the required lengths do not depend on a
@@ -66,12 +68,15 @@ module _ (s : Sheet) where
   -- Beyond the request: where two multipliers give the same R and D, each between them gives these too, and all give the same tree. So an
   -- editor who slides may skip what lies between.
   pub skipped : (a b c : ℕ) (x y z : Call) → a ≤ b → b ≤ c → TreeOf (with_multiplier a s) x → TreeOf (with_multiplier b s) y
-      → TreeOf (with_multiplier c s) z → (figures_in x.answer).weight ≡ (figures_in z.answer).weight → (figures_in x.answer).distance ≡ (figures_in z.answer).distance
+      → TreeOf (with_multiplier c s) z → (figures_in x.answer).weight ≡ (figures_in z.answer).weight
+      → (figures_in x.answer).distance ≡ (figures_in z.answer).distance
       → ((figures_in y.answer).weight ≡ (figures_in x.answer).weight) × ((figures_in y.answer).distance ≡ (figures_in x.answer).distance)
       × ((figures_in y.answer).nodes ≡ (figures_in x.answer).nodes) × (found_bytes y ≡ found_bytes x)
   skipped a b c x y z h k t u v r d =
-      let (e, p, q) = skips s a b c (found_bytes x) (found_bytes y) (found_bytes z) (figures_in x.answer).weight (figures_in x.answer).distance
-      (figures_in y.answer).weight (figures_in y.answer).distance h k (found_first (with_multiplier a s) x t) (found_first (with_multiplier b s) y u) last in
+      let (e, p, q) = skips s a b c (found_bytes x) (found_bytes y) (found_bytes z) (figures_in x.answer).weight
+      (figures_in x.answer).distance
+      (figures_in y.answer).weight (figures_in y.answer).distance h k (found_first (with_multiplier a s) x t)
+      (found_first (with_multiplier b s) y u) last in
       (p, q, sym (found-length (with_multiplier b s) y u) ∙ ap length e ∙ found-length (with_multiplier a s) x t, e)
     where
       last : FirstTree (with_multiplier c s) (found_bytes z) (figures_in x.answer).weight (figures_in x.answer).distance

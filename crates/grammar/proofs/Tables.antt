@@ -11,7 +11,8 @@ use Rattle.sheet.specs.declared.table.Rule as held
 use Rattle.sheet.specs.declared.table.Rule.TheVariants.{Division, Leaf}
 use Rattle.sheet.specs.declared.table.GrammarTable.{GrammarTable}
 use Rattle.sheet.specs.Sheet.{Rule, Grammar}
-use Rattle.sheet.specs.Reading.{byte, two, bytes_from, division_refusal, division_of, leaf_refusal, leaf_of, rule_refusal, rule_of, with_rule}
+use Rattle.sheet.specs.Reading.{byte, two, bytes_from, division_refusal, division_of, leaf_refusal, leaf_of, rule_refusal, rule_of}
+use Rattle.sheet.specs.Reading.{with_rule}
 use Rattle.sheet.specs.Held.{no_rule, rule_cell, parts_of, child_cells, grammar_table}
 use Rattle.sheet.specs.Laws.{length-bytes, division_passed, leaf_passed}
 use Rattle.grammar.specs.Clauses.{cell_of, arity_of}

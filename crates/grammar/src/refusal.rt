@@ -1,4 +1,5 @@
-// The refusals of the lines of a grammar. Each test is one demand of the documents, in their order, so a range is two tests and no `contains`.
+// The refusals of the lines of a grammar. Each test is one demand of the documents, in their order, so a range is two tests and no
+// `contains`.
 ghost use Rattle.std.specs.Prelude.{◌≡◌, List, ℕ, ◌≤◌, ltb};
 ghost use Rattle.sheet.specs.Reading.{demand, head_refusal, division_refusal, leaf_refusal, rule_refusal, all_below, bytes_from};
 ghost use Rattle.sheet.specs.Refusal.{test_number};

@@ -121,7 +121,8 @@ module _ {leaves : List ℕ} {heads : ℕ} {before after : List ℕ} {c : ℕ} (
 
       other : (i : ℕ) → i < multiplier_at → get_or (set two length_count_at count) i 0 ≡ get_or after i 0
       other i h =
-          get_or-set_other two length_count_at i count 0 (λ e. omega arith) ∙ get_or-set_other one nonterminals_at i heads 0 (λ e. omega arith)
+          get_or-set_other two length_count_at i count 0 (λ e. omega arith)
+          ∙ get_or-set_other one nonterminals_at i heads 0 (λ e. omega arith)
           ∙ get_or-set_other after multiplier_at i a 0 (λ e. omega arith)
 
 -- ---- all sections

@@ -15,7 +15,8 @@ use Rattle.slices.specs.Every.{Every, every_weaken}
 use Rattle.playing.specs.declared.onset.Latest.{Latest}
 use Rattle.playing.specs.declared.onset.OnsetStep.{OnsetStep}
 use Rattle.sheet.specs.Sheet.{Onset, Grammar, Playing, Timing, unit_in, bar_of, in_bar}
-use Rattle.sheet.specs.Reading.{first, byte, four, onset_form, moment_refusal, room_refusal, onset_refusal, onset_of, with_onset, other_refusal}
+use Rattle.sheet.specs.Reading.{first, byte, four, onset_form, moment_refusal, room_refusal, onset_refusal, onset_of, with_onset}
+use Rattle.sheet.specs.Reading.{other_refusal}
 use Rattle.sheet.specs.Reading.{in_onsets, refusal}
 use Rattle.sheet.specs.Clock.{div_mono}
 use Rattle.sheet.proofs.BarLines.{units_up}

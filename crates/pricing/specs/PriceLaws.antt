@@ -53,11 +53,13 @@ module _ (text list : List ℕ) (r : Answer) (e : outcome_of r ≡ priced_of (pr
 
     -- number 0: a valid tree, and the figures are its own
     pub zero_then_own : answer_number r ≡ 0
-        → trees.Priced s list (figures_in r).weight (figures_in r).distance × (outcome_of r ≡ priced_as s (length list) (figures_in r).weight (figures_in r).distance)
+        → trees.Priced s list (figures_in r).weight (figures_in r).distance
+        × (outcome_of r ≡ priced_as s (length list) (figures_in r).weight (figures_in r).distance)
     zero_then_own z = go (valid_or_not s list)
       where
         go : ((R : ℕ) × (D : ℕ) × trees.Priced s list R D) ⊎ (ValidTree s list → ⊥)
-            → trees.Priced s list (figures_in r).weight (figures_in r).distance × (outcome_of r ≡ priced_as s (length list) (figures_in r).weight (figures_in r).distance)
+            → trees.Priced s list (figures_in r).weight (figures_in r).distance
+            × (outcome_of r ≡ priced_as s (length list) (figures_in r).weight (figures_in r).distance)
         go (inl (R, D, p)) =
             let q = tree_then_priced R D p in
             let w : (figures_in r).weight ≡ R = ap (λ (o : Outcome Priced). (value_in (struct_of no_figures) o).weight) q in

@@ -41,7 +41,8 @@ use Rattle.reporting.specs.ReportingLaws.{within_lines, within_short, prints}
 -- ---- `refusal_line`
 
 -- the field of a line's number, behind kind and number
-pub field_put : (k n : ℕ) (bytes : List ℕ) → bytes ≡ over_from 2 (big_endian 2 n) (0x52 ∷ k ∷ 0 ∷ 0 ∷ []) → bytes ≡ 0x52 ∷ k ∷ big_endian 2 n
+pub field_put : (k n : ℕ) (bytes : List ℕ) → bytes ≡ over_from 2 (big_endian 2 n) (0x52 ∷ k ∷ 0 ∷ 0 ∷ [])
+    → bytes ≡ 0x52 ∷ k ∷ big_endian 2 n
 unfolding big_endian over_from over
 field_put k n bytes e = e
 

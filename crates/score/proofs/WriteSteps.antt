@@ -70,7 +70,8 @@ module _ (s : Sheet) (list : List ℕ) where
       → Promised (write_sheet s list (length score)) (Err e) score score
   unfolding write_sheet
   sheet_refused e is score =
-      kept (write_sheet s list (length score)) e (ap (write_priced s list (length score)) (value_refused _ (price_sheet s list) (sym is))) score
+      kept (write_sheet s list (length score)) e
+      (ap (write_priced s list (length score)) (value_refused _ (price_sheet s list) (sym is))) score
 
 -- ---- the text of a tree
 

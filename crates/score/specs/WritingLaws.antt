@@ -73,7 +73,8 @@ refused_as k n = refused k n
 abbrev pub written_as : (bytes : ℕ) → Outcome ℕ
 written_as n = accepted n
 
-module _ (text list score : List ℕ) {score' : List ℕ} (r : Result ℕ Refused) (e : outcome_of r ≡ written_of (write_text text list (length score)))
+module _ (text list score : List ℕ) {score' : List ℕ} (r : Result ℕ Refused)
+    (e : outcome_of r ≡ written_of (write_text text list (length score)))
     (after : score' ≡ score_after (write_text text list (length score)) score) where
   given : (o : Outcome (List ℕ)) → write_text text list (length score) ≡ o → (outcome_of r ≡ written_of o) × (score' ≡ score_after o score)
   given o q = (e ∙ ap written_of q, after ∙ ap (λ (o : Outcome (List ℕ)). score_after o score) q)

@@ -3,7 +3,8 @@ use Rattle.std.specs.Prelude.{ℕ, ◌≡◌, cond, eqb, Result, Ok, Err}
 use Rattle.std.proofs.Math.Path.{refl, ap}
 use Rattle.std.proofs.Common.{arith, sym, ◌∙◌}
 use Rattle.sheet.specs.declared.refusal.Refusal.{Refusal}
-use Rattle.sheet.specs.declared.refusal.Refusal.TheVariants.{TextTooLong, BadLine, KindOutOfOrder, WrongByteCount, FieldOutOfRange, TimeFalls}
+use Rattle.sheet.specs.declared.refusal.Refusal.TheVariants.{TextTooLong, BadLine, KindOutOfOrder, WrongByteCount, FieldOutOfRange}
+use Rattle.sheet.specs.declared.refusal.Refusal.TheVariants.{TimeFalls}
 use Rattle.sheet.specs.declared.refusal.Refusal.TheVariants.{PastTheEnd, TooMany, WorkShort, TreeShort, NoTree, NotATree, ScoreShort}
 use Rattle.sheet.specs.declared.refusal.Refusal.TheVariants.{TapMissing, StepOutOfRange, BeforeTheFirstTap}
 use Rattle.sheet.specs.declared.refusal.Refused.{Refused}

@@ -40,7 +40,8 @@ half_downwards r h e =
     let z : ◌≡◌ {A = ℕ} 0 1 = sym e ∙ ap unit_in_outcome h in omega arith
 
 -- an onset taken that is before the end in time and rounded up to it
-end_let_through : (r : Result Reading Refused) → Reads (grammar_s ++ head_s ++ text_of "4E001E847F3C40\n") r → number_in (outcome_of r) ≡ 0 → ⊥
+end_let_through : (r : Result Reading Refused) → Reads (grammar_s ++ head_s ++ text_of "4E001E847F3C40\n") r
+    → number_in (outcome_of r) ≡ 0 → ⊥
 unfolding read_sheet
 end_let_through r h e = let z : ◌≡◌ {A = ℕ} 0 7 = sym e ∙ ap number_in h in omega arith
 
@@ -63,11 +64,13 @@ next_bars_duration r h e =
     let z : ◌≡◌ {A = ℕ} 5040 10080 = sym e ∙ ap unit_in_outcome h in omega arith
 
 -- 3 for an onset where a tap is missing; a step of 999 taken; an onset before the first tap taken
-three_for_seventeen : (r : Result Reading Refused) → Reads (grammar_s ++ text_of "450100000000\n4200000005\n4E000000053C40\n") r → number_in (outcome_of r) ≡ 3 → ⊥
+three_for_seventeen : (r : Result Reading Refused) → Reads (grammar_s ++ text_of "450100000000\n4200000005\n4E000000053C40\n") r
+    → number_in (outcome_of r) ≡ 3 → ⊥
 unfolding read_sheet
 three_for_seventeen r h e = let z : ◌≡◌ {A = ℕ} 3 17 = sym e ∙ ap number_in h in omega arith
 
-step_let_through : (r : Result Reading Refused) → Reads (grammar_s ++ text_of "450100000000\n4200000005\n42000003EC\n4E000000053C40\n") r → number_in (outcome_of r) ≡ 0 → ⊥
+step_let_through : (r : Result Reading Refused) → Reads (grammar_s ++ text_of "450100000000\n4200000005\n42000003EC\n4E000000053C40\n") r
+    → number_in (outcome_of r) ≡ 0 → ⊥
 unfolding read_sheet
 step_let_through r h e = let z : ◌≡◌ {A = ℕ} 0 18 = sym e ∙ ap number_in h in omega arith
 

@@ -1,6 +1,7 @@
 -- A slice filled from its front by a function: what a loop that prepares or clears cells leaves.
 use Rattle.std.specs.Prelude.{◌≡◌, refl, List, ◌++◌, ℕ, ◌+◌, ◌-◌, ◌≤◌, ◌<◌, length, take, drop, set, get_or, replicate}
-use Rattle.std.proofs.Common.{sym, ap, ap₂, subst, ◌∙◌, arith, below_more, length-set, take-append-drop, length-take-le, drop-set-lt, drop-drop, get_or-set_same, get_or-set_other, get_or-take, ext_get_or}
+use Rattle.std.proofs.Common.{sym, ap, ap₂, subst, ◌∙◌, arith, below_more, length-set, take-append-drop, length-take-le, drop-set-lt}
+use Rattle.std.proofs.Common.{drop-drop, get_or-set_same, get_or-set_other, get_or-take, ext_get_or}
 use Rattle.std.proofs.lemmas.List.{length-replicate, get_or-replicate}
 use Rattle.slices.specs.Over.{over, over-drop}
 

@@ -1,6 +1,6 @@
 -- What `remark_at`'s contract says, by what the text means: of a refused text (`remark_refused`), behind the last bar (`remark_last`) and
--- before it (`remark_inside`), where the two durations tell the case (`equal_then_steady`, `larger_then_faster`, `smaller_then_slower`); and
--- that a plain sheet is steady throughout (`plain_steady`).
+-- before it (`remark_inside`), where the two durations tell the case (`equal_then_steady`, `larger_then_faster`, `smaller_then_slower`);
+-- and that a plain sheet is steady throughout (`plain_steady`).
 use Rattle.std.specs.Prelude.{ℕ, ◌+◌, ◌≤◌, ◌<◌, ◌≡◌, refl, false, not, cond, List, length, T}
 use Rattle.std.proofs.Common.{sym, subst, ◌∙◌, arith}
 use Rattle.std.proofs.Math.Path.{ap}

@@ -27,8 +27,8 @@ hundred = fin false 25 (pos 2)
 abbrev pub float : ℕ → Float
 float n = of_int binary64 (pos n)
 
--- "The percentage is 100 × (a1 / a2 - 1) in 64-bit floats (source document 003), rounded after the division, after the subtraction and after
--- the product"
+-- "The percentage is 100 × (a1 / a2 - 1) in 64-bit floats (source document 003), rounded after the division, after the subtraction and
+-- after the product"
 unfoldable pub percent_of : (a1 a2 : ℕ) → Float
 percent_of a1 a2 = mul binary64 hundred (sub binary64 (div binary64 (float a1) (float a2)) one)
 
@@ -36,8 +36,8 @@ percent_of a1 a2 = mul binary64 hundred (sub binary64 (div binary64 (float a1) (
 unfoldable pub in_range : (a : ℕ) → Bool
 in_range a = leb shortest_bar a && leb a longest_bar
 
--- "For adjoining bar durations a1 and a2 the answer is steady when they are equal, faster with a percentage when a1 is larger, slower with a
--- percentage when it is smaller"; "other pairs give steady"
+-- "For adjoining bar durations a1 and a2 the answer is steady when they are equal, faster with a percentage when a1 is larger, slower with
+-- a percentage when it is smaller"; "other pairs give steady"
 abbrev pub tempo_of : (a1 a2 : ℕ) → Tempo
 tempo_of a1 a2 =
     cond (in_range a1)

@@ -12,14 +12,16 @@ use Rattle.sheet.specs.Sheet.{Sheet}
 use Rattle.plan.specs.Plan.{Divides}
 use Rattle.rows.specs.Slots.{item_at}
 use Rattle.building.specs.Clauses.{at, BuiltAs, BuildPre, PartsBuildPre, SuffixPre, SuffixCosts}
-use Rattle.building.proofs.BuildSteps.{build_room, build_low, build_length, build_here, late_placed, build_chosen, built_leaf, build_parts_entry, built_division, parts_shorter}
+use Rattle.building.proofs.BuildSteps.{build_room, build_low, build_length, build_here, late_placed, build_chosen, built_leaf}
+use Rattle.building.proofs.BuildSteps.{build_parts_entry, built_division, parts_shorter}
 use Rattle.sheet.specs.Held.{units as units_of}
 use Rattle.expansions.specs.Tables.{last_unit}
 use Rattle.expansions.specs.Items.{first_at}
 use Rattle.rows.specs.Rows.{Entry, Row, parts_at}
 use Rattle.rows.specs.PartLaws.{rule_below, parts-length, parts_eight}
 use Rattle.building.proofs.PartSteps.{in_parts_none, part_near, part_entry, part_behind, part_build, in_parts_more, in_parts_all}
-use Rattle.building.proofs.+build_build_parts.Goals.{build-After-build_parts, build-In-Some, build_parts-After-child-q, build_parts-After-suffix_costs-w, build_parts-After-totals-x}
+use Rattle.building.proofs.+build_build_parts.Goals.{build-After-build_parts, build-In-Some, build_parts-After-child-q}
+use Rattle.building.proofs.+build_build_parts.Goals.{build_parts-After-suffix_costs-w, build_parts-After-totals-x}
 use Rattle.building.proofs.+build_build_parts.Goals as goal
 
 -- ---- build
@@ -306,8 +308,14 @@ build_parts-overflow_add-end t c = omega (arith, near t (goal.at.build_parts-ove
 pub build_parts-first_behind-then-requires : goal.build_parts-first_behind-then-requires
 build_parts-first_behind-then-requires t c =
     let s = c.requires.0 in
-    let h = c.requires.1 in
-    (s, c.loop-j.lo, h.parts.in_bar_lem.onsets, (c.loop-j.invariant.1 s h).first, omega arith, omega (arith, near t (goal.at.build_parts-first_behind-then-requires t c).After-child-q s h))
+    let h = c.requires.1 in (
+      s,
+      c.loop-j.lo,
+      h.parts.in_bar_lem.onsets,
+      (c.loop-j.invariant.1 s h).first,
+      omega arith,
+      omega (arith, near t (goal.at.build_parts-first_behind-then-requires t c).After-child-q s h),
+    )
 
 pub build_parts-cells-y-requires : goal.build_parts-cells-y-requires
 build_parts-cells-y-requires t c =
@@ -328,7 +336,9 @@ build_parts-loop-j-preserved t c =
     let more = c.loop-j-test.true in (
       omega (arith, c.loop-j.invariant.0),
       λ s h. in_parts_more h (c.loop-j.invariant.1 s h) more c.length-len.ensures c.loop-j.invariant.0
-          c.child-q.ensures (row t (goal.at.build_parts-loop-j-preserved t c).After-totals-x s h) c.totals-x.ensures (first-is t (goal.at.build_parts-loop-j-preserved t c).After-totals-x s h) (vector t (goal.at.build_parts-loop-j-preserved t c).After-suffix_costs-w s h)
+          c.child-q.ensures (row t (goal.at.build_parts-loop-j-preserved t c).After-totals-x s h) c.totals-x.ensures
+          (first-is t (goal.at.build_parts-loop-j-preserved t c).After-totals-x s h)
+          (vector t (goal.at.build_parts-loop-j-preserved t c).After-suffix_costs-w s h)
           {rows'''' = c.build-b.new.rows} {then = c.build-b.new.tree}
           (c.build-b.ensures s (build-entry t (goal.at.build_parts-loop-j-preserved t c).After-suffix_costs-w s h)),
     )

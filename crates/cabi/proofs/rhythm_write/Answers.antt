@@ -8,9 +8,14 @@ use Rattle.cabi.proofs.rhythm_write.Goals as goal
 
 pub returns-in-Err : goal.returns-in-Err
 returns-in-Err c = (
-  (λ j. c.number.ensures j ∷ c.in-Err.e.line ∷ 0 ∷ []) ∙ ap count_cells c.in-Err.ensures.0 ∙ cells_written (write_text c.args.text.now c.args.list.now (length c.args.score.now)),
+  (λ j. c.number.ensures j ∷ c.in-Err.e.line ∷ 0 ∷ []) ∙ ap count_cells c.in-Err.ensures.0
+      ∙ cells_written (write_text c.args.text.now c.args.list.now (length c.args.score.now)),
   c.in-Err.ensures.1,
 )
 
 pub returns-in-Ok : goal.returns-in-Ok
-returns-in-Ok c = (ap count_cells c.in-Ok.ensures.0 ∙ cells_written (write_text c.args.text.now c.args.list.now (length c.args.score.now)), c.in-Ok.ensures.1)
+returns-in-Ok c = (
+  ap count_cells c.in-Ok.ensures.0
+      ∙ cells_written (write_text c.args.text.now c.args.list.now (length c.args.score.now)),
+  c.in-Ok.ensures.1,
+)

@@ -20,7 +20,8 @@ fits : (c : In_default-check_rule)
     × (arity_of ((line_bytes (drop c.loop-at.at c.args.text.now))) ≤ 8) × (c.in-Some.l.count ≤ 13)
 fits c =
     let (is, filled) = line_if_some c.in-Some.ensures in
-    rule_fits _ _ c.loop-at-test.true _ is filled _ _ _ (c.in_default-check_rule.ensures _ (rest_held _ _ c.loop-at-test.true _ is filled)) refl
+    rule_fits _ _ c.loop-at-test.true _ is filled _ _ _
+    (c.in_default-check_rule.ensures _ (rest_held _ _ c.loop-at-test.true _ is filled)) refl
 
 pub loop-at-init : goal.loop-at-init
 loop-at-init c =

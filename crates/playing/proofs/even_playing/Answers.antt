@@ -38,11 +38,15 @@ passed : (c : After-four_at) → (1 ≤ c.byte_at-bars.result) × (c.byte_at-bar
 passed c =
     let held = head_held c.args.text.now c.args.at c.requires.0 _ c.requires.1 c.requires.2 in
     let met = sym (c.in-Ok.ensures _ held) in
-    head_passed c.args.text.now c.args.at c.requires.0 _ c.requires.1 c.requires.2 met _ _ (c.byte_at-bars.ensures _ held) (c.four_at.ensures _ held)
+    head_passed c.args.text.now c.args.at c.requires.0 _ c.requires.1 c.requires.2 met _ _ (c.byte_at-bars.ensures _ held)
+    (c.four_at.ensures _ held)
 
 pub even_lines-lines-requires : goal.even_lines-lines-requires
-even_lines-lines-requires c =
-    ((passed (goal.at.even_lines-lines-requires c).After-four_at).1, ((passed (goal.at.even_lines-lines-requires c).After-four_at).2 c.if-duration-eq0.false).1)
+even_lines-lines-requires c = (
+  (passed (goal.at.even_lines-lines-requires c).After-four_at).1,
+  ((passed (goal.at.even_lines-lines-requires c).After-four_at).2
+      c.if-duration-eq0.false).1,
+)
 
 pub clock_of-clock-requires : goal.clock_of-clock-requires
 clock_of-clock-requires c =
@@ -53,7 +57,8 @@ clock_of-clock-requires c =
       lines = record {
         one = (passed (goal.at.clock_of-clock-requires c).After-four_at).0;
         sixty_four = (passed (goal.at.clock_of-clock-requires c).After-four_at).1;
-        time = subst (GoodTiming c.byte_at-bars.result) (sym is) (even_good _ _ (passed (goal.at.clock_of-clock-requires c).After-four_at).1 range.0 range.1);
+        time = subst (GoodTiming c.byte_at-bars.result) (sym is)
+            (even_good _ _ (passed (goal.at.clock_of-clock-requires c).After-four_at).1 range.0 range.1);
       };
       even = λ _. is;
     }

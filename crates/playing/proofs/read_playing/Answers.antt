@@ -53,15 +53,18 @@ returns-in-Err c g good some kind =
 pub read_bars-requires : goal.read_bars-requires
 read_bars-requires c =
     let next = head_within c.args.text.now c.args.at c.requires.0 _ c.requires.3 c.requires.4 in
-    let passed = head_passed c.args.text.now c.args.at c.requires.0 _ c.requires.3 c.requires.4 (met (goal.at.read_bars-requires c).After-four_at) _ _
-    (c.byte_at-bars.ensures _ (held (goal.at.read_bars-requires c).Start)) (c.four_at.ensures _ (held (goal.at.read_bars-requires c).Start)) in
+    let passed = head_passed c.args.text.now c.args.at c.requires.0 _ c.requires.3 c.requires.4
+    (met (goal.at.read_bars-requires c).After-four_at) _ _
+    (c.byte_at-bars.ensures _ (held (goal.at.read_bars-requires c).Start))
+    (c.four_at.ensures _ (held (goal.at.read_bars-requires c).Start)) in
     (next.0, next.1 _ c.requires.1, omega arith, passed.0, passed.1, passed.2)
 
 pub returns-in_err-read : goal.returns-in_err-read
 returns-in_err-read c g good some kind =
     let q = err_from_is_err_and c.from_residual.result c.from_residual.ensures.1 in
     rw (q.1, q.2)
-    (subst (λ o. Stopped c.args.text.now o c.in_err-read.field-0.0) (sym (on (goal.at.returns-in_err-read c).After-four_at g some kind)) (c.in_err-read.ensures.1 g))
+    (subst (λ o. Stopped c.args.text.now o c.in_err-read.field-0.0) (sym (on (goal.at.returns-in_err-read c).After-four_at g some kind))
+    (c.in_err-read.ensures.1 g))
 
 pub clock_of-clock-requires : goal.clock_of-clock-requires
 clock_of-clock-requires c = c.in_ok-read.ensures.1

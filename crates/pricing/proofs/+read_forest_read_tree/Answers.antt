@@ -12,7 +12,8 @@ use Rattle.sheet.specs.Sheet.{Sheet}
 use Rattle.expansions.specs.Items.{item_of, LeafMade, DivisionMade}
 use Rattle.pricing.specs.Clauses.{Room, ItemPre}
 use Rattle.pricing.proofs.ForestSteps.{row_none, row_all, next_within, row_item, row_more, row_stuck}
-use Rattle.pricing.proofs.TreeSteps.{item_at_lem, children_length, list_ends, leaf_told, division_told, rule_refused, leaf_room, leaf_walked, parts_fall, arity_small, rule_room, kids_are, parts_entry, parts_walked}
+use Rattle.pricing.proofs.TreeSteps.{item_at_lem, children_length, list_ends, leaf_told, division_told, rule_refused, leaf_room}
+use Rattle.pricing.proofs.TreeSteps.{leaf_walked, parts_fall, arity_small, rule_room, kids_are, parts_entry, parts_walked}
 use Rattle.pricing.proofs.+read_forest_read_tree.Goals.{read_tree-After-expand, read_tree-In-Division, read_tree-In-Leaf}
 use Rattle.pricing.proofs.+read_forest_read_tree.Goals as goal
 
@@ -165,7 +166,8 @@ read_tree-slice_bounds-kids-end t c =
 pub read_tree-behind-next-requires : goal.read_tree-behind-next-requires
 read_tree-behind-next-requires t c =
     let h = c.requires.1 in
-    rule_room h c.args.nonterminal (some_rule t (goal.at.read_tree-behind-next-requires t c).After-expand) (division_made t (goal.at.read_tree-behind-next-requires t c).In-Division _ h)
+    rule_room h c.args.nonterminal (some_rule t (goal.at.read_tree-behind-next-requires t c).After-expand)
+    (division_made t (goal.at.read_tree-behind-next-requires t c).In-Division _ h)
 
 -- the parts are shorter than the interval
 pub read_tree-read_forest-requires : goal.read_tree-read_forest-requires
@@ -187,7 +189,8 @@ read_tree-returns-in_err-x t c =
 -- a leaf
 pub read_tree-returns-in-Leaf : goal.read_tree-returns-in-Leaf
 read_tree-returns-in-Leaf t c =
-    λ s h. leaf_walked h c.args.nonterminal (some_rule t (goal.at.read_tree-returns-in-Leaf t c).After-expand) (leaf_made t (goal.at.read_tree-returns-in-Leaf t c).In-Leaf s h) _ c.behind.ensures
+    λ s h. leaf_walked h c.args.nonterminal (some_rule t (goal.at.read_tree-returns-in-Leaf t c).After-expand)
+    (leaf_made t (goal.at.read_tree-returns-in-Leaf t c).In-Leaf s h) _ c.behind.ensures
 
 -- a division
 pub read_tree-returns-in-Division : goal.read_tree-returns-in-Division

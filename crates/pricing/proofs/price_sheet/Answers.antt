@@ -15,7 +15,8 @@ use Rattle.pricing.proofs.BarSteps.{counts_small, too_long, bars_entry, bars_wal
 use Rattle.pricing.proofs.price_sheet.Goals.{After-pack_units-units, After-read_forest-read}
 use Rattle.pricing.proofs.price_sheet.Goals as goal
 
-entry : (c : After-pack_units-units) (s : Sheet) → (SheetHeld s c.args.grammar c.args.playing) → ForestPre s c.pack_rules-rules.result c.args.grammar.children c.pack_units-units.result
+entry : (c : After-pack_units-units) (s : Sheet) → (SheetHeld s c.args.grammar c.args.playing)
+    → ForestPre s c.pack_rules-rules.result c.args.grammar.children c.pack_units-units.result
     c.args.list.now ((take c.args.playing.bars (replicate 64 c.args.grammar.start))) (interval 0 20160) unread
 entry c s h =
     bars_entry h _ _ _ _ (c.pack_rules-rules.ensures _ h.grammar) (c.pack_units-units.ensures _ h.good.onsets h.playing)
@@ -24,11 +25,13 @@ entry c s h =
 walked : (c : After-read_forest-read) (s : Sheet) → (SheetHeld s c.args.grammar c.args.playing)
     → BarsWalked s c.args.list.now c.read_forest-read.result
 walked c s h =
-    let entry-here : (s : Sheet) → (SheetHeld s c.args.grammar c.args.playing) → ForestPre s c.pack_rules-rules.result c.args.grammar.children c.pack_units-units.result
+    let entry-here : (s : Sheet) → (SheetHeld s c.args.grammar c.args.playing)
+    → ForestPre s c.pack_rules-rules.result c.args.grammar.children c.pack_units-units.result
     c.args.list.now ((take c.args.playing.bars (replicate 64 c.args.grammar.start))) (interval 0 20160) unread =
     λ s h. bars_entry h _ _ _ _ (c.pack_rules-rules.ensures _ h.grammar) (c.pack_units-units.ensures _ h.good.onsets h.playing)
     (omega (arith, c.if-count-playing.false)) refl in
-    bars_walked h _ ((take c.args.playing.bars (replicate 64 c.args.grammar.start))) refl c.read_forest-read.result (c.read_forest-read.ensures s (entry-here s h))
+    bars_walked h _ ((take c.args.playing.bars (replicate 64 c.args.grammar.start))) refl c.read_forest-read.result
+    (c.read_forest-read.ensures s (entry-here s h))
 
 pub overflow_mul-playing : goal.overflow_mul-playing
 overflow_mul-playing c =

@@ -81,7 +81,8 @@ returns-in_err-rules c =
     let q = err_from_is_err_and c.from_residual.result c.from_residual.ensures.1 in
     let one = first (goal.at.returns-in_err-rules c).In_default-check_first in
     rw (q.1, q.2)
-    (subst (λ o. Stopped c.args.text.now o c.in_err-rules.field-0.0) (sym one.on) (c.in_err-rules.ensures _ one.good (c.head_of.ensures _ one.held)))
+    (subst (λ o. Stopped c.args.text.now o c.in_err-rules.field-0.0) (sym one.on)
+    (c.in_err-rules.ensures _ one.good (c.head_of.ensures _ one.held)))
 
 pub even_playing-requires : goal.even_playing-requires
 even_playing-requires c =

@@ -17,7 +17,10 @@ loop-i-preserved c =
       omega arith,
       omega arith,
       counted_more _ _ _ _ _ c.loop-i.invariant.2 (omega arith) c.if-b-bar.run c.if-b-bar.bar _
-          (elim c.if-b-bar.branch [ then-b-bar w ↦ run_starts w.if-b-bar.true w.run-is w.bar-is | else-b-bar w ↦ run_stays w.if-b-bar.false w.run-is w.bar-is ])
+          (elim c.if-b-bar.branch [
+            | then-b-bar w ↦ run_starts w.if-b-bar.true w.run-is w.bar-is
+            | else-b-bar w ↦ run_stays w.if-b-bar.false w.run-is w.bar-is
+          ])
           (omega arith),
     )
 

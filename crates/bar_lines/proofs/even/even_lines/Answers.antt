@@ -27,7 +27,8 @@ pub offset_bounds-lines-i : goal.offset_bounds-lines-i
 offset_bounds-lines-i c = let n = few (goal.at.offset_bounds-lines-i c).In-loop-i in search rules
 
 pub bounds-lines-i : goal.bounds-lines-i
-bounds-lines-i c = let n = few (goal.at.bounds-lines-i c).In-loop-i in let m = c.loop-i.invariant.0.size ∙ c.loop-i.invariant.2 in omega (arith, n, m)
+bounds-lines-i c = let n = few (goal.at.bounds-lines-i c).In-loop-i in let m = c.loop-i.invariant.0.size
+    ∙ c.loop-i.invariant.2 in omega (arith, n, m)
 
 pub loop-i-preserved : goal.loop-i-preserved
 loop-i-preserved c =

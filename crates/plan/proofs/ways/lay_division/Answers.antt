@@ -11,7 +11,8 @@ use Rattle.plan.proofs.ways.lay_division.Goals as goal
 least : (c : After-placed_cost-own) → c.placed_cost-own.result ≤ (c.args.cost + c.rest_sum.result)
 least c =
     let told = c.args in
-    rest_least told.children.now told.leaves.now told.cost told.r told.k c.loop-j.j (c.placed_cost-own.result) ((c.args.cost + c.rest_sum.result))
+    rest_least told.children.now told.leaves.now told.cost told.r told.k c.loop-j.j (c.placed_cost-own.result)
+    ((c.args.cost + c.rest_sum.result))
     c.loop-j-test.true c.placed_cost-own.ensures.1
     (ap (told.cost +◌) c.rest_sum.ensures.1)
 
@@ -22,7 +23,8 @@ whole : (c : After-placed_cost-own) → (c.args.cost + c.rest_sum.result) - c.pl
 whole c =
     let least-here : c.placed_cost-own.result ≤ (c.args.cost + c.rest_sum.result) =
     let told = c.args in
-    rest_least told.children.now told.leaves.now told.cost told.r told.k c.loop-j.j (c.placed_cost-own.result) ((c.args.cost + c.rest_sum.result))
+    rest_least told.children.now told.leaves.now told.cost told.r told.k c.loop-j.j (c.placed_cost-own.result)
+    ((c.args.cost + c.rest_sum.result))
     c.loop-j-test.true c.placed_cost-own.ensures.1
     (ap (told.cost +◌) c.rest_sum.ensures.1) in
     omega (arith, least-here, c.rest_sum.ensures.1)
@@ -58,7 +60,8 @@ lay_part-requires c =
       omega (arith, pre.1, sum.0),
       pre.4,
       pre.5,
-      rest_behind told.children.now told.leaves.now told.cost told.r told.k c.loop-j.j _ _ (whole (goal.at.lay_part-requires c).After-placed_cost-own)
+      rest_behind told.children.now told.leaves.now told.cost told.r told.k c.loop-j.j _ _
+          (whole (goal.at.lay_part-requires c).After-placed_cost-own)
           c.placed_cost-own.ensures.1,
     )
 

@@ -7,7 +7,8 @@ use Rattle.std.specs.declared.option.Option.TheVariants.{Some, None}
 use native.Mathlib.Omega.{arith}
 use lib.ListN.{get_or}
 use Rattle.rows.specs.NameLaws.{stands_bar, solve_room, stands-length, stands_head, solve_stored}
-use Rattle.rows.specs.OneCallLaws.{part_slot, part_solve, part_loaded, rule_length, rule_positive, rule_child, rule_near, rule_part, rule_way, rule_told, one_place, one_behind, leaf_one_asked, leaf_one_told, rule_asked}
+use Rattle.rows.specs.OneCallLaws.{part_slot, part_solve, part_loaded, rule_length, rule_positive, rule_child, rule_near, rule_part}
+use Rattle.rows.specs.OneCallLaws.{rule_way, rule_told, one_place, one_behind, leaf_one_asked, leaf_one_told, rule_asked}
 use Rattle.rows.specs.TurnLaws.{ruled_low, ruled_idle}
 use Rattle.rows.specs.SolveLaws.{place_in, division_at, split_told, rules_begin, rules_here, rules_next, rules_end, parts_shorter}
 use Rattle.rows.proofs.one.+part_one_rule_one_solve_one.Goals.{solve_one-in-Some, solve_one-in_default}

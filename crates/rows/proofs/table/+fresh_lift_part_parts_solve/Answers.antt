@@ -12,9 +12,12 @@ use lib.ListN.{get_or}
 use Rattle.rows.specs.NameLaws.{stands_bar, solve_room, solve_loaded, stands-length, stands_head, solve_stored}
 use Rattle.rows.specs.TurnLaws.{row_low, ruled_low, ruled_none, ruled_idle, ruled_more}
 use Rattle.rows.specs.IdleLaws.{Idle, taken_skip}
-use Rattle.rows.specs.CallLaws.{lift_slot, lift_solve, lift_more, leaf_asked, dot_asked, part_empty, lift_entry, lift_none, lift_all, moved_none, moved_more, leaf_entry, leaf_told}
-use Rattle.rows.specs.PartLaws.{rule_below, parts-length, parts_eight, parts_begin, parts_all, turn_near, turn_asked, turn_part, turn_more, parted_low}
-use Rattle.rows.specs.SolveLaws.{place_in, division_at, rule_below as rule_within, split_told, rules_begin, rules_here, rules_next, rules_end, parts_entry, parts_shorter}
+use Rattle.rows.specs.CallLaws.{lift_slot, lift_solve, lift_more, leaf_asked, dot_asked, part_empty, lift_entry, lift_none, lift_all}
+use Rattle.rows.specs.CallLaws.{moved_none, moved_more, leaf_entry, leaf_told}
+use Rattle.rows.specs.PartLaws.{rule_below, parts-length, parts_eight, parts_begin, parts_all, turn_near, turn_asked, turn_part, turn_more}
+use Rattle.rows.specs.PartLaws.{parted_low}
+use Rattle.rows.specs.SolveLaws.{place_in, division_at, rule_below as rule_within, split_told, rules_begin, rules_here, rules_next}
+use Rattle.rows.specs.SolveLaws.{rules_end, parts_entry, parts_shorter}
 use Rattle.rows.proofs.table.+fresh_lift_part_parts_solve.Goals.{solve-in-Some, solve-in_default}
 use Rattle.rows.proofs.table.+fresh_lift_part_parts_solve.Goals as goal
 
@@ -348,7 +351,8 @@ solve-loop-n-preserved t c =
           let d = split_told e done k less is (Some _) (w.in-Some.ensures.1 s _ t.in_bar_lem.prepared place t.length_in) in
           let met = w.parts-v.ensures s (parts_entry e d done.ruled.sound) in
           rw (w.rows-is, w.best-is)
-          (ruled_more s _ _ _ here t.in_bar_lem.prepared.good d e.inhabited (w.cost.ensures.1 s t.in_bar_lem.prepared) met w.relax_rule-y.ensures)
+          (ruled_more s _ _ _ here t.in_bar_lem.prepared.good d e.inhabited
+          (w.cost.ensures.1 s t.in_bar_lem.prepared) met w.relax_rule-y.ensures)
       | solve-in_default w ↦
           let idle = split_told e done k less is None (w.in_default.ensures.1 s _ t.in_bar_lem.prepared place t.length_in) in
           rw (w.rows-is, w.best-is) (ruled_idle s _ _ _ here idle)

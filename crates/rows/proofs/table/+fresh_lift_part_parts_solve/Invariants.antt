@@ -28,12 +28,14 @@ decreases-solve l = 5 * length_cell l.plan.now l.l
 
 abbrev pub invariant-part-loop-c : goal.invariant-part-loop-c
 invariant-part-loop-c l =
-    (s : Sheet) (v : List ℕ) → PartEntry s l.plan l.units l.initial.rows l.bar l.q l.l l.left l.from l.to v → l.zero ≡ get_or v 0 0 → MovedTo v 0 l.initial.a l.initial.b l.initial.d
+    (s : Sheet) (v : List ℕ) → PartEntry s l.plan l.units l.initial.rows l.bar l.q l.l l.left l.from l.to v → l.zero ≡ get_or v 0 0
+    → MovedTo v 0 l.initial.a l.initial.b l.initial.d
     → l.e ≡ get_or v 3 0 → MovedTo v l.c l.a l.b l.d × Taken s l.rows (item_at s l.q l.l l.left) v l.c l.o
 
 abbrev pub invariant-parts-loop-j : goal.invariant-parts-loop-j
 invariant-parts-loop-j l =
-    (l.lo + l.i * l.len.0 ≡ l.initial.lo + l.j * l.len.0) × ((s : Sheet) (e : PartsEntry s l.plan l.units l.initial.rows l.bar l.r l.i l.k l.l (units l.initial.lo) l.from l.c)
+    (l.lo + l.i * l.len.0 ≡ l.initial.lo + l.j * l.len.0)
+    × ((s : Sheet) (e : PartsEntry s l.plan l.units l.initial.rows l.bar l.r l.i l.k l.l (units l.initial.lo) l.from l.c)
     → PartsDone s l.rows (kids_of e) l.l (units l.initial.lo) l.c (l.j - l.i) l.lo l.at l.v)
 
 abbrev pub invariant-solve-loop-n : goal.invariant-solve-loop-n

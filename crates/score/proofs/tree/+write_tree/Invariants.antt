@@ -13,5 +13,6 @@ decreases-write_tree l = l.over.len.0
 abbrev pub invariant-loop-j : goal.invariant-loop-j
 invariant-loop-j l =
     (length l.score ≡ length l.initial.score) ×
-    ((s : Sheet) (rest : List Item) (ks : List ℕ) → length ks ≡ l.k → PartsPre s rest ks l.rules l.units l.pitches l.list l.over.left.0 l.len l.initial.next l.initial.score →
+    ((s : Sheet) (rest : List Item) (ks : List ℕ) → length ks ≡ l.k
+    → PartsPre s rest ks l.rules l.units l.pitches l.list l.over.left.0 l.len l.initial.next l.initial.score →
     PartsUpto s rest ks l.list l.over.left.0 l.len l.initial.next l.initial.score l.j l.next l.score)

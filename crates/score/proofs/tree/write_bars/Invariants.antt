@@ -10,4 +10,5 @@ use Rattle.score.proofs.tree.write_bars.Given as goal
 abbrev pub invariant-loop-b : goal.invariant-loop-b
 invariant-loop-b l =
     (length l.score ≡ length l.initial.score) ×
-    ((s : Sheet) → BarsPre s l.rules l.units l.pitches l.list l.bars l.to l.initial.score → BarsUpto s l.list l.to l.initial.score l.b l.next l.score)
+    ((s : Sheet) → BarsPre s l.rules l.units l.pitches l.list l.bars l.to l.initial.score
+    → BarsUpto s l.list l.to l.initial.score l.b l.next l.score)
