@@ -10,7 +10,7 @@ ghost use Rattle.tempo.specs.Tempo.{record_text, remark_of};
 ghost use Rattle.cabi.specs.Entries.{check_of, work_of, tree_of, unit_at, bar_line_of, tempo_cells, answer_cells, write_cells, FindCells};
 
 use pricing::Priced;
-use sheet::{BAR_LINES_MOST, ONSETS_MOST, Refused};
+use sheet::{BAR_LINES_MOST, ONSETS_MOST, Reading, Refused};
 use tempo::{remark_at, tempo_kind};
 
 // The number of a text's refusal times 65,536, plus its line; 0: the text is accepted.
@@ -51,13 +51,13 @@ pub extern "C" fn rhythm_tree_bytes(text: &[u8]) -> u64
 pub extern "C" fn rhythm_onset_unit(text: &[u8], i: usize) -> u32
     ensures { result ≡ unit_at (read_sheet text.now) i }
 {
-    let Ok(r) = reading::read(text) else {
+    let Ok(Reading { playing, .. }) = reading::read(text) else {
         return 0;
     };
     if ONSETS_MOST <= i {
         return 0;
     }
-    r.playing.units[i].0
+    playing.units[i].0
 }
 
 // The moment of bar line i, from 0, in microseconds; 0 past the last, and where the text is refused.
@@ -65,13 +65,13 @@ pub extern "C" fn rhythm_onset_unit(text: &[u8], i: usize) -> u32
 pub extern "C" fn rhythm_bar_line(text: &[u8], i: usize) -> u32
     ensures { result ≡ bar_line_of (read_sheet text.now) i }
 {
-    let Ok(r) = reading::read(text) else {
+    let Ok(Reading { timing, .. }) = reading::read(text) else {
         return 0;
     };
     if BAR_LINES_MOST <= i {
         return 0;
     }
-    r.timing.lines[i].0
+    timing.lines[i].0
 }
 
 // A refusal as the numbers of an answer.
@@ -96,7 +96,7 @@ pub extern "C" fn rhythm_tempo(text: &[u8], i: usize, answer: &mut [u64; 6])
             r.bar.next as u64,
             f64::to_bits(r.bar.percentage),
         ],
-        Err(e) => refused_cells(e),
+        Err(refused) => refused_cells(refused),
     };
     *answer = cells;
 }

@@ -64,7 +64,13 @@ fn call_of(line: [u8; 7]) -> Call {
 
 // How many elements of a slice are x.
 fn count_of<T: Copy + PartialEq>(s: &[T], x: T) -> usize {
-    s.iter().filter(|&&held| held == x).count()
+    let mut count: usize = 0;
+    for &held in s {
+        if held == x {
+            count += 1;
+        }
+    }
+    count
 }
 
 // Prints the number and the line of a refusal, 0 and 0 where there is none, and a price.

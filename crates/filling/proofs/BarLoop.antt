@@ -9,6 +9,7 @@ use Rattle.rows.specs.declared.slots.Bar.{Bar}
 use Rattle.rows.specs.OnsetLaws.{Behind, behind_start, behind_more}
 use Rattle.rows.specs.Slots.{Sound}
 use Rattle.filling.specs.Filling.{FillEntry, OnsetFilled}
+use Rattle.filling.specs.OnsetLaws.{bar_number}
 
 module _ {s : Sheet} {plan us : List ℕ} {order : Option (List ℕ)} {rows : List ℕ} {bar : Bar} (e : FillEntry s plan us order rows bar) where
   -- the first i onsets of the piece are met, from the bar's first on
@@ -18,15 +19,12 @@ module _ {s : Sheet} {plan us : List ℕ} {order : Option (List ℕ)} {rows : Li
     pub sound : Sound s now
     pub size : length pairs ≡ 2688
 
-  few_bars : bar.number < 64
-  few_bars = omega (arith, e.in_bar_lem.bar_in, e.in_bar_lem.onsets.good.sixty_four)
-
   search : Behind s us bar.first (bar.number * bar_units) (bar.number * bar_units + bar_units)
   search = record {
     held = e.in_bar_lem.onsets;
     first = e.in_bar_lem.bar_first;
     ahead = omega arith;
-    near = omega (arith, few_bars);
+    near = omega (arith, bar_number e);
   }
 
   pub bar_begin : {pairs : List ℕ} → length pairs ≡ 2688 → BarTo rows pairs bar.first

@@ -14,7 +14,7 @@ const DIGIT_VALUES: u8 = 16;
 pub const NO_DIGIT: u16 = 65535;
 
 // The value of each byte as the first digit of a pair, 16 times that of the digit, and behind these as the second.
-#[derive(Drop)]
+#[derive(Clone, Copy)]
 pub struct Digits {
     pub cells: [u16; 2 * BYTE_VALUES],
     pub ghost table: { DigitTable cells },

@@ -54,7 +54,8 @@ fn kind_of(units: &PackedUnits, left: Units, placed: usize) -> u8 {
     placed.min(3) as u8
 }
 
-// The onsets inside an interval. Units never fall, so the first behind it ends the count.
+// The onsets inside an interval. Units never fall, so the first behind it ends the count. Out of line, its loop has the registers alone.
+#[inline(never)]
 fn inside(units: &PackedUnits, over: Interval) -> Counts
     ensures { (result.early ≤ 513) × (result.late ≤ 513) }
 {
@@ -65,13 +66,15 @@ fn inside(units: &PackedUnits, over: Interval) -> Counts
     let mut late = 0;
     for &unit in units {
         let twice = 2 * u64::from(unit);
-        if right <= twice {
-            break;
-        }
-        if middle <= twice {
-            late += 1;
-        } else if left <= twice {
-            early += 1;
+        // A unit before the interval is passed by one test.
+        if left <= twice {
+            if twice < middle {
+                early += 1;
+            } else if twice < right {
+                late += 1;
+            } else {
+                break;
+            }
         }
     }
     Counts { early, late }

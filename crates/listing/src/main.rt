@@ -9,7 +9,7 @@ ghost use Rattle.std.specs.Prelude.{◌≡◌, length};
 use case_text::{behind, place_of, print_front, read_full};
 use expansions::{PackedUnits, pack_units};
 use items::{ITEMS_MOST, Pending, Place, move_at};
-use sheet::{BAR_UNITS, GrammarTable, ONSETS_MOST, Reading, Units};
+use sheet::{BAR_UNITS, GrammarTable, ONSETS_MOST, RULES_MOST, Reading, Units};
 use sizes::TREE_BYTES_MOST;
 use std::io;
 use tally::Tally;
@@ -53,7 +53,9 @@ fn explore(given: &Given, list: &mut [u8], nodes: usize, p: &Place, tally: &mut 
         tally.goes_wrong();
         return;
     }
-    for (i, &rule) in given.grammar.rules.iter().enumerate() {
+    // Places behind the rules hold none.
+    let rules = &given.grammar.rules[..given.grammar.count.min(RULES_MOST)];
+    for (i, &rule) in rules.iter().enumerate() {
         if let Some(m) = move_at(&given.units, rule, item, p.carried) {
             list[nodes] = i as u8;
             let behind = p.behind(&given.grammar.children, i, m, item);

@@ -4,7 +4,7 @@
 ghost use Rattle.std.specs.Prelude.{◌≡◌, ℕ, ◌+◌, ◌≤◌, ◌<◌, length, IfSome, Ok};
 ghost use Rattle.hextext.specs.Packed.{line_read};
 ghost use Rattle.sheet.specs.Sheet.{Grammar, no_playing};
-ghost use Rattle.sheet.specs.Held.{playing_table};
+ghost use Rattle.sheet.specs.Held.{playing_table, timing_table, no_sheet};
 ghost use Rattle.bar_lines.specs.Lines.{ClockOf};
 ghost use Rattle.playing.specs.Clauses.{OnsetsRead, PlayingRead};
 
@@ -16,8 +16,8 @@ use head::check_playing;
 use hextext::{Digits, Line, line_at, seven_at};
 use onset::{Latest, even_step, onset_step};
 use sheet::{
-    BarLines, Micros, ONSETS_MOST, PlayingTable, Refusal, Stop, TimingTable, Units, byte_at,
-    four_at,
+    BAR_LINES_MOST, BarLines, Micros, ONSETS_MOST, PlayingTable, Refusal, Stop, TimingTable, Units,
+    byte_at, four_at,
 };
 
 // What reading the playing gives: the timing and the playing.
@@ -35,7 +35,7 @@ const NONE_BEFORE: Latest = Latest {
 };
 
 // The playing of `bars` bars and no onsets.
-fn no_onsets(bars: u8) -> PlayingTable
+pub fn no_onsets(bars: u8) -> PlayingTable
     ensures { result ≡ playing_table (no_playing bars) }
 {
     let units = [Units(0); ONSETS_MOST];
@@ -46,6 +46,14 @@ fn no_onsets(bars: u8) -> PlayingTable
         units,
         pitches,
     }
+}
+
+// The timing of no sheet.
+pub fn no_timing() -> TimingTable
+    ensures { result ≡ timing_table no_sheet.timing }
+{
+    let lines = [Micros(0); BAR_LINES_MOST];
+    TimingTable { lines }
 }
 
 // The lines behind the bar lines, from place `at` on, where line `line` starts: up to the end of the text.

@@ -1,13 +1,12 @@
 -- What reading the lines of a text promises.
-use Rattle.std.specs.Prelude.{◌≡◌, List, ℕ, Result, Ok, Err}
+use Rattle.std.specs.Prelude.{◌≡◌, List, ℕ, Result}
 use Rattle.sheet.specs.declared.table.Reading.{Reading}
-use Rattle.sheet.specs.declared.refusal.Stop.{Stop}
-use Rattle.sheet.specs.Outcome.{accepted}
+use Rattle.sheet.specs.declared.refusal.Refused.{Refused}
 use Rattle.sheet.specs.Reading.{nothing}
-use Rattle.sheet.specs.Rest.{read_rest, Stopped}
+use Rattle.sheet.specs.Refusal.{outcome_of}
+use Rattle.sheet.specs.Rest.{read_rest}
 use Rattle.sheet.specs.Held.{reading_of}
 
--- the lines of a text from the first on: the sheet that they mean, as it is held, or the refusal that reading stops at
-abbrev pub LinesRead : (t : List ℕ) → Result Reading Stop → Type 0
-LinesRead t (Ok r) = accepted r ≡ reading_of (read_rest nothing 1 t)
-LinesRead t (Err e) = Stopped t (read_rest nothing 1 t) e
+-- the lines of a text from the first on: the sheet that they mean, as it is held, or their refusal
+abbrev pub LinesRead : (t : List ℕ) → Result Reading Refused → Type 0
+LinesRead t r = outcome_of r ≡ reading_of (read_rest nothing 1 t)

@@ -11,10 +11,12 @@ ghost use Rattle.reading.specs.Clauses.{LinesRead};
 
 use grammar::{check_head, head_of, read_rules};
 use hextext::{Digits, Line, bad_from, line_at};
-use playing::{Take, even_playing, read_playing};
+use playing::{even_playing, read_playing};
 use sheet::{Kind, Reading, Refusal, Refused, Stop, TEXT_MOST};
 
 // The refusal of a text that reading stops at: a bad line there or behind it goes before.
+// Cold: out of line, it leaves the loops that read most texts their registers.
+#[cold]
 fn refused_at(digits: &Digits, text: &[u8], stop: Stop) -> Refused
     requires { (stop.line ≤ stop.at + 1) × (0 < stop.line) }
     ensures { refused (number_of result.refusal) result.line ≡ stopped (number_of stop.refusal) stop.line (drop stop.at text.now) }
@@ -36,26 +38,31 @@ fn check_first(l: Line) -> Result<(), Refusal>
 }
 
 // The lines of a text, one after another. Most sheets are read by `even_playing`.
-fn read_lines(digits: &Digits, text: &[u8]) -> Result<Reading, Stop>
+// The result is made apart for each: where the two ways join, or where it is taken out of another `Result`, the tables are copied once more.
+fn read_lines(digits: &Digits, text: &[u8]) -> Result<Reading, Refused>
     requires { 0 < length text.now }
     ensures { LinesRead text.now result }
 {
     let Some(head) = line_at(digits, text, 0) else {
-        return Err(Stop {
+        let stop = Stop {
             refusal: Refusal::BadLine,
             line: 1,
             at: 0,
-        });
+        };
+        return Err(refused_at(digits, text, stop));
     };
     if let Err(refusal) = check_first(head) {
-        return Err(Stop {
+        let stop = Stop {
             refusal,
             line: 1,
             at: 0,
-        });
+        };
+        return Err(refused_at(digits, text, stop));
     }
-    let rules = read_rules(digits, text, head.next, 2, head_of(head))?;
-    // The result is made apart for each: where the two ways join, the tables are copied once more.
+    let rules = match read_rules(digits, text, head.next, 2, head_of(head)) {
+        Ok(rules) => rules,
+        Err(stop) => return Err(refused_at(digits, text, stop)),
+    };
     if let Some(take) = even_playing(digits, text, rules.at, rules.end) {
         return Ok(Reading {
             timing: take.timing,
@@ -63,12 +70,14 @@ fn read_lines(digits: &Digits, text: &[u8]) -> Result<Reading, Stop>
             playing: take.playing,
         });
     }
-    let take = read_playing(digits, text, rules.at, rules.line, rules.end)?;
-    Ok(Reading {
-        timing: take.timing,
-        grammar: rules.grammar,
-        playing: take.playing,
-    })
+    match read_playing(digits, text, rules.at, rules.line, rules.end) {
+        Ok(take) => Ok(Reading {
+            timing: take.timing,
+            grammar: rules.grammar,
+            playing: take.playing,
+        }),
+        Err(stop) => Err(refused_at(digits, text, stop)),
+    }
 }
 
 // The meaning of a text as a sheet, or its refusal.
@@ -82,8 +91,5 @@ pub fn read(text: &[u8]) -> Result<Reading, Refused>
         return Err(Refusal::BadLine.at(1));
     }
     let digits = Digits::new();
-    match read_lines(&digits, text) {
-        Ok(reading) => Ok(reading),
-        Err(stop) => Err(refused_at(&digits, text, stop)),
-    }
+    read_lines(&digits, text)
 }

@@ -1,4 +1,4 @@
--- What a reading tells by its number: a refusal, or the tables of an accepted sheet; and what an operation on the sheet of a text comes to.
+-- What a reading tells: a refusal, or the tables of an accepted sheet; and what an operation on the sheet of a text comes to.
 -- Every entry above reading goes by these laws: `on_refused` where the text is refused, `on_held` where it is not.
 use Rattle.std.specs.Prelude.{ℕ, ◌≡◌, List}
 use Rattle.sheet.specs.declared.table.GrammarTable.{GrammarTable}

@@ -11,4 +11,4 @@ pub returns-then-i-ge-BAR_LINES_MOST : goal.returns-then-i-ge-BAR_LINES_MOST
 returns-then-i-ge-BAR_LINES_MOST c = bar_line_none c.args.text.now c.args.i c.if-i-ge-BAR_LINES_MOST.true
 
 pub returns : goal.returns
-returns c = bar_line_is c.args.text.now c.in-Ok.r c.in-Ok.ensures c.args.i c.if-i-ge-BAR_LINES_MOST.false
+returns c = bar_line_is c.args.text.now c.in-Ok.field-0 c.in-Ok.ensures c.args.i c.if-i-ge-BAR_LINES_MOST.false

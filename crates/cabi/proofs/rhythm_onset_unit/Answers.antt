@@ -11,4 +11,4 @@ pub returns-then-i-ge-ONSETS_MOST : goal.returns-then-i-ge-ONSETS_MOST
 returns-then-i-ge-ONSETS_MOST c = unit_none c.args.text.now c.args.i c.if-i-ge-ONSETS_MOST.true
 
 pub returns : goal.returns
-returns c = unit_is c.args.text.now c.in-Ok.r c.in-Ok.ensures c.args.i c.if-i-ge-ONSETS_MOST.false
+returns c = unit_is c.args.text.now c.in-Ok.field-0 c.in-Ok.ensures c.args.i c.if-i-ge-ONSETS_MOST.false

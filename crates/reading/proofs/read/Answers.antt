@@ -20,11 +20,6 @@ returns-then-text-gt-TEXT_MOST c = rw c.at.ensures (ap reading_of (sym (too_long
 pub returns-then-text-eq0 : goal.returns-then-text-eq0
 returns-then-text-eq0 c = rw c.at-then-text-eq0.ensures (ap reading_of (sym (empty_bad _ c.if-text-eq0.true)))
 
-pub returns-in-Ok : goal.returns-in-Ok
-returns-in-Ok c =
-    c.in-Ok.ensures ∙ ap reading_of (sym (lines_are _ c.if-text-eq0.false c.if-text-gt-TEXT_MOST.false))
-
-pub returns-in-Err : goal.returns-in-Err
-returns-in-Err c =
-    let o = lines_are _ c.if-text-eq0.false c.if-text-gt-TEXT_MOST.false ∙ c.in-Err.ensures.is ∙ sym c.refused_at.ensures in
-    sym (ap reading_of o)
+pub returns : goal.returns
+returns c =
+    c.read_lines.ensures ∙ ap reading_of (sym (lines_are _ c.if-text-eq0.false c.if-text-gt-TEXT_MOST.false))

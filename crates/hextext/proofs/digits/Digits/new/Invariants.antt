@@ -1,5 +1,5 @@
--- `hextext::digit_table` meets its contract. The loop's invariant: the digits of the numbers below n stand in both halves of the table.
--- Assumes nothing.
+-- `Digits::new` meets its contract, the ghost field. The loop's invariant: the digits of the numbers below n stand in both halves of the
+-- table. Assumes nothing.
 use Prim.Native.Nat.{◌≤◌}
 use mathlib.Core.Path.{◌≡◌}
 use lib.ListN.{length}
