@@ -11,7 +11,8 @@ use Rattle.rows.specs.Slots.{Sound}
 use Rattle.filling.specs.Filling.{FillEntry, OnsetFilled}
 use Rattle.filling.specs.OnsetLaws.{bar_number}
 
-module _ {s : Sheet} {plan us : List ℕ} {order : Option (List ℕ)} {rows : List ℕ} {bar : Bar} (e : FillEntry s plan us order rows bar) where
+module _ {s : Sheet} {plan us : List ℕ} {order : Option (List ℕ)} {rows : List ℕ} {bar : Bar}
+    (e : FillEntry s plan us order rows bar) where
   -- the first i onsets of the piece are met, from the bar's first on
   pub record BarTo (now pairs : List ℕ) (i : ℕ) : Type 0 where
     pub behind : bar.first ≤ i

@@ -52,14 +52,16 @@ module _ {s : Sheet} {plan us order rows : List ℕ} {bar : Bar} where
   bar_given is = subst (λ (o : Option (List ℕ)). FillEntry s plan us o rows bar) is
 
 -- whether there is an order or not, a bar's number is below 64
-module _ {s : Sheet} {plan us : List ℕ} {order : Option (List ℕ)} {rows : List ℕ} {bar : Bar} (e : FillEntry s plan us order rows bar) where
+module _ {s : Sheet} {plan us : List ℕ} {order : Option (List ℕ)} {rows : List ℕ} {bar : Bar}
+    (e : FillEntry s plan us order rows bar) where
   pub bar_number : bar.number < 64
   bar_number = omega (arith, e.in_bar_lem.bar_in, e.in_bar_lem.onsets.good.sixty_four)
 
 module _ {s : Sheet} {plan us order rows : List ℕ} {bar : Bar} (e : FillEntry s plan us (Some order) rows bar) where
   -- the place of the first onset behind the bar is looked for
   module _ {right : ℕ} (er : right ≡ bar_units * bar.number + bar_units) where
-    pub bar_search : (t : Sheet) × (left : ℕ) × UnitsHeld t us × (bar.first ≡ first_at t left) × (left ≤ right) × (right ≤ last_unit)
+    pub bar_search : (t : Sheet) × (left : ℕ) × UnitsHeld t us × (bar.first ≡ first_at t left) × (left ≤ right)
+        × (right ≤ last_unit)
     bar_search =
         (s, bar.number * bar_units, e.in_bar_lem.onsets, e.in_bar_lem.bar_first, omega (arith, er), omega (arith, er, bar_number e))
 

@@ -143,7 +143,8 @@ fn read_even(
 // reads most sheets keeps no number and no line. Where it is not so there is none, and `read_playing` reads them, which can refuse.
 pub fn even_playing(digits: &Digits, text: &[u8], at: usize, l: Line) -> Option<Take>
     requires { (at < length text.now) × (l ≡ line_read text.now at) × (0 < l.count) }
-    ensures { IfSome result (λ r. (line : ℕ) → line ≤ at + 1 → 0 < line → (g : Grammar) → PlayingRead text.now at line l g (Ok r)) }
+    ensures { IfSome result (λ r. (line : ℕ) → line ≤ at + 1 → 0 < line → (g : Grammar)
+        → PlayingRead text.now at line l g (Ok r)) }
 {
     let Ok(()) = check_playing(l) else {
         return None;

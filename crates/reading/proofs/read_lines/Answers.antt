@@ -25,7 +25,7 @@ use Rattle.playing.specs.declared.Take.{Take}
 use Rattle.playing.specs.Clauses.{PlayingRead, TakeRead}
 use Rattle.reading.specs.Clauses.{LinesRead}
 use Rattle.reading.proofs.FirstLine.{Taken, first_bad, first_refused, first_taken}
-use Rattle.reading.proofs.read_lines.Goals.{In_default-check_first, In-Err-read_rules, In-Ok}
+use Rattle.reading.proofs.read_lines.Goals.{In_default-check_first, In-Err-read_rules, In-Err-read_playing, In-Ok}
 use Rattle.reading.proofs.read_lines.Goals as goal
 
 -- where the first line is not refused
@@ -87,13 +87,12 @@ read_rules-requires c =
     (le_trans (le_of_eq next) (line_within text 0 (omega arith)), omega (arith, next), omega arith)
 
 -- where the rules are refused
-module _ (c : In-Err-read_rules) where
-  rules_stop : Stopped c.args.text.now (read_rest nothing 1 c.args.text.now) c.in-Err-read_rules.stop
-  rules_stop =
-      let (is, filled) = line_if_some c.in-Some.ensures in
-      let one = first_taken c.args.text.now c.requires _ is filled _ c.in_default-check_first.ensures refl in
-      subst (λ o. Stopped c.args.text.now o c.in-Err-read_rules.stop) (sym one.on)
-      (c.in-Err-read_rules.ensures _ one.good (c.head_of.ensures _ one.held))
+rules_stop : (c : In-Err-read_rules) → Stopped c.args.text.now (read_rest nothing 1 c.args.text.now) c.in-Err-read_rules.stop
+rules_stop c =
+    let (is, filled) = line_if_some c.in-Some.ensures in
+    let one = first_taken c.args.text.now c.requires _ is filled _ c.in_default-check_first.ensures refl in
+    subst (λ o. Stopped c.args.text.now o c.in-Err-read_rules.stop) (sym one.on)
+    (c.in-Err-read_rules.ensures _ one.good (c.head_of.ensures _ one.held))
 
 pub refused_at-requires-in-Err-read_rules : goal.refused_at-requires-in-Err-read_rules
 refused_at-requires-in-Err-read_rules c =
@@ -120,11 +119,17 @@ read_playing-requires c =
     let d = rules_read (goal.at.read_playing-requires c).In-Ok in
     (d.inside, d.line, d.numbered, d.end, d.filled)
 
+-- where the playing is refused
+playing_stop : (c : In-Err-read_playing) → Stopped c.args.text.now (read_rest nothing 1 c.args.text.now) c.in-Err-read_playing.stop
+playing_stop c =
+    let (is, filled) = line_if_some c.in-Some.ensures in
+    let one = first_taken c.args.text.now c.requires _ is filled _ c.in_default-check_first.ensures refl in
+    let d = c.in-Ok.ensures _ one.good (c.head_of.ensures _ one.held) in
+    take_read one d (Err c.in-Err-read_playing.stop) (c.in-Err-read_playing.ensures d.grammar)
+
 pub refused_at-requires-in-Err-read_playing : goal.refused_at-requires-in-Err-read_playing
 refused_at-requires-in-Err-read_playing c =
-    let one = first (goal.at.refused_at-requires-in-Err-read_playing c).In_default-check_first in
-    let d = rules_read (goal.at.refused_at-requires-in-Err-read_playing c).In-Ok in
-    let h = take_read one d (Err c.in-Err-read_playing.stop) (c.in-Err-read_playing.ensures d.grammar) in
+    let h = playing_stop (goal.at.refused_at-requires-in-Err-read_playing c).In-Err-read_playing in
     (h.place, h.numbered)
 
 pub returns-in-Ok-read_playing : goal.returns-in-Ok-read_playing
@@ -135,7 +140,4 @@ returns-in-Ok-read_playing c =
 
 pub returns-in-Err-read_playing : goal.returns-in-Err-read_playing
 returns-in-Err-read_playing c =
-    let one = first (goal.at.returns-in-Err-read_playing c).In_default-check_first in
-    let d = rules_read (goal.at.returns-in-Err-read_playing c).In-Ok in
-    let h = take_read one d (Err c.in-Err-read_playing.stop) (c.in-Err-read_playing.ensures d.grammar) in
-    told _ h c.refused_at-in-Err-read_playing.ensures
+    told _ (playing_stop (goal.at.returns-in-Err-read_playing c).In-Err-read_playing) c.refused_at-in-Err-read_playing.ensures

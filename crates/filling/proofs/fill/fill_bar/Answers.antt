@@ -4,15 +4,15 @@ use Rattle.filling.proofs.fill.fill_bar.Goals as goal
 
 pub overflow_cast-end : goal.overflow_cast-end
 overflow_cast-end c =
-    omega (arith, bar_number (bar_given c.in-Some.is c.requires.1))
+    omega (arith, bar_number c.requires.1)
 
 pub overflow_mul-end : goal.overflow_mul-end
 overflow_mul-end c =
-    omega (arith, bar_number (bar_given c.in-Some.is c.requires.1))
+    omega (arith, bar_number c.requires.1)
 
 pub overflow_add-end : goal.overflow_add-end
 overflow_add-end c =
-    omega (arith, bar_number (bar_given c.in-Some.is c.requires.1))
+    omega (arith, bar_number c.requires.1)
 
 pub first_behind-i-end-requires : goal.first_behind-i-end-requires
 first_behind-i-end-requires c = bar_search (bar_given c.in-Some.is c.requires.1) refl
